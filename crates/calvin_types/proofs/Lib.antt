@@ -1,0 +1,4 @@
+pub mod Fews
+pub mod KeyLists
+pub mod Risings
+pub mod Tests

@@ -1,0 +1,32 @@
+-- The number and the name of each fault.
+--     number_of fault      its number
+--     name_of fault      its name, as the codes of its letters
+use Rattle.std.specs.Prelude.{ℕ, List, codes}
+use Rattle.calvin_types.specs.declared.fault.Fault.{Fault}
+use Rattle.calvin_types.specs.declared.fault.Fault.TheVariants.{OutOfMemory, TooManyKeys, Repeated, BadConfig, TooLong, NotComplete, BadJson, BadScript, ScriptTooLong, ReadFailed, WriteFailed}
+
+abbrev pub number_of : Fault → ℕ
+number_of OutOfMemory = 1
+number_of TooManyKeys = 2
+number_of Repeated = 3
+number_of BadConfig = 4
+number_of TooLong = 5
+number_of NotComplete = 34
+number_of BadJson = 90
+number_of BadScript = 91
+number_of ScriptTooLong = 92
+number_of ReadFailed = 95
+number_of WriteFailed = 96
+
+abbrev pub name_of : Fault → List ℕ
+name_of OutOfMemory = codes "OutOfMemory"
+name_of TooManyKeys = codes "TooManyKeys"
+name_of Repeated = codes "Repeated"
+name_of BadConfig = codes "BadConfig"
+name_of TooLong = codes "TooLong"
+name_of NotComplete = codes "NotComplete"
+name_of BadJson = codes "BadJson"
+name_of BadScript = codes "BadScript"
+name_of ScriptTooLong = codes "ScriptTooLong"
+name_of ReadFailed = codes "ReadFailed"
+name_of WriteFailed = codes "WriteFailed"

@@ -1,0 +1,16 @@
+-- Where a key stands among keys in order, or where it would.
+use Rattle.std.specs.Prelude.{◌≡◌, ℕ, ◌≤◌, true, false, List, length}
+use Rattle.std.specs.List.{insert}
+use Rattle.calvin_types.specs.declared.key.Key.{Key}
+use Rattle.calvin_types.specs.Keys.{has, insert_key}
+
+-- the key stands at this place
+pub record IsAt (key : Key) (keys : List Key) (i : ℕ) : Type 0 where
+  pub there : has keys key ≡ true
+  pub insert_is : insert_key key keys ≡ keys
+
+-- the key is missing, and would stand at this place
+pub record IsMissingAt (key : Key) (keys : List Key) (i : ℕ) : Type 0 where
+  pub within : i ≤ length keys
+  pub missing : has keys key ≡ false
+  pub insert_is : insert_key key keys ≡ insert keys i key

@@ -1,0 +1,12 @@
+pub mod Faults
+pub mod Few
+pub mod KeyCode
+pub mod KeyList
+pub mod KeyOrder
+pub mod KeyPlaces
+pub mod Keys
+pub mod Limits
+pub mod Orders
+pub mod Participants
+pub mod Places
+pub mod Texts

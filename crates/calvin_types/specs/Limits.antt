@@ -1,0 +1,9 @@
+-- How large things may be.
+--     IsInRange partitions replicas      1 to 16 partitions and 1 to 7 replicas
+use Rattle.std.specs.Prelude.{ℕ, ◌≤◌, ◌<◌}
+
+pub record IsInRange (partitions replicas : ℕ) : Type 0 where
+  pub some_partition : 0 < partitions
+  pub partitions_at_most : partitions ≤ 16
+  pub some_replica : 0 < replicas
+  pub replicas_at_most : replicas ≤ 7

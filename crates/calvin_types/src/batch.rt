@@ -1,0 +1,70 @@
+//! A batch of at most 256 requests, whose copies share the memory.
+ghost use Rattle.std.specs.Prelude.{◌≡◌, ◌≤◌, ◌<◌, ◌↔◌, ◌⊎◌, length, IfErr, IfOk, IsErrOf, slice_get, IsOkUnless};
+
+use crate::fault::Fault;
+use crate::shared::Shared;
+use crate::txn::Txn;
+use std::alloc::Global;
+use std::marker::Model;
+
+/// At most 256 requests in order, which contracts see as a list.
+#[derive(Debug, Drop, PartialEq, Eq)]
+pub struct Batch<Args> {
+    txns: Shared<Txn<Args>>,
+}
+
+impl<Args> Model for Batch<Args> {
+    ghost use Rattle.calvin_types.specs.declared.txn.Txn.{Txn};
+    ghost use Rattle.std.specs.Prelude.{List, length, ◌≤◌};
+
+    ghost Value = { List (Txn Args) };
+
+    ghost view = { λ b. b.txns };
+
+    ghost invariant = { λ b. length b.txns ≤ 256 };
+
+    ghost inverse = { λ txns. record { txns = txns } };
+}
+
+impl<Args: Copy> Batch<Args> {
+    /// A batch of these requests, which are not copied.
+    pub fn new(alloc: Global, txns: Vec<Txn<Args>>) -> Result<Batch<Args>, Fault>
+        ensures ok { IfOk result (λ b. b ≡ txns.items) }
+        ensures long { IsErrOf result Fault.TooLong ↔ (256 < length txns.items) }
+        ensures faults { IfErr result (λ fault. (fault ≡ Fault.TooLong) ⊎ (fault ≡ Fault.OutOfMemory)) }
+    {
+        if txns.len() > 256 {
+            return Err(Fault::TooLong);
+        }
+        let txns = Shared::new(alloc, txns)?;
+        Ok(Batch { txns })
+    }
+
+    pub fn len(&self) -> usize
+        ensures len { result ≡ length self.now }
+        ensures at_most { length self.now ≤ 256 }
+    {
+        self.txns.as_slice().len()
+    }
+
+    pub fn as_slice(&self) -> &[Txn<Args>]
+        ensures { result.now ≡ self.now }
+    {
+        self.txns.as_slice()
+    }
+
+    pub fn get(&self, i: usize) -> Option<Txn<Args>>
+        ensures { result ≡ slice_get self.now i }
+    {
+        self.txns.as_slice().get(i).copied()
+    }
+
+    /// Another owner of the same memory.
+    pub fn copy(&self) -> Result<Batch<Args>, Fault>
+        ensures ok { IfOk result (λ b. b ≡ self.now) }
+        ensures err { IsOkUnless result Fault.OutOfMemory }
+    {
+        let txns = self.txns.share()?;
+        Ok(Batch { txns })
+    }
+}

@@ -1,0 +1,95 @@
+//! At most sixteen keys in a row, which need no memory of their own.
+ghost use Rattle.std.specs.Prelude.{◌≡◌, ◌≤◌, ◌<◌, ◌+◌, [], ◌∷◌, ◌++◌, length, slice_get, slice_set};
+ghost use Rattle.std.specs.List.{insert};
+
+use crate::key::Key;
+use std::marker::Model;
+
+/// At most sixteen keys, which contracts see as their list. Tables and numbers stand apart, so that a key takes nine
+/// bytes and not sixteen; unused places are zero.
+#[derive(Clone, Copy, Debug, PartialEq, Eq)]
+pub(crate) struct KeyList {
+    tables: [u8; 16],
+    ids: [u64; 16],
+    size: usize,
+}
+
+impl Model for KeyList {
+    ghost use Rattle.std.specs.Prelude.{List, length};
+    ghost use Rattle.calvin_types.specs.declared.key.Key.{Key};
+    ghost use Rattle.calvin_types.specs.KeyList.{IsKeyList, keys_of, tables_of, ids_of};
+
+    ghost Value = { List Key };
+
+    ghost view = { λ s. keys_of s.tables s.ids s.size };
+
+    ghost invariant = { λ s. IsKeyList s.tables s.ids s.size };
+
+    ghost inverse = { λ ks. record { tables = tables_of ks; ids = ids_of ks; size = length ks } };
+
+    ghost inverse_ok = { λ a h i. record { tables = h.tables_are i; ids = h.ids_are i; size = h.size_is i } };
+}
+
+impl KeyList {
+    pub(crate) fn new() -> KeyList
+        ensures { result ≡ [] }
+    {
+        KeyList {
+            tables: [0; 16],
+            ids: [0; 16],
+            size: 0,
+        }
+    }
+
+    pub(crate) fn len(&self) -> usize
+        ensures len { result ≡ length self.now }
+        ensures at_most { length self.now ≤ 16 }
+    {
+        self.size
+    }
+
+    pub(crate) fn at(&self, i: usize) -> Key
+        requires { i < length self.now }
+        ensures { slice_get self.now i ≡ Some result }
+    {
+        let size = self.size;
+        prove!(i < size);
+        Key {
+            table: self.tables[i],
+            id: self.ids[i],
+        }
+    }
+
+    pub(crate) fn push(&mut self, key: Key)
+        requires { length self.old < 16 }
+        ensures { self.new ≡ self.old ++ key ∷ [] }
+    {
+        self.tables[self.size] = key.table;
+        self.ids[self.size] = key.id;
+        self.size += 1;
+    }
+
+    pub(crate) fn set(&mut self, i: usize, key: Key)
+        requires { i < length self.old }
+        ensures { self.new ≡ slice_set self.old i key }
+    {
+        let size = self.size;
+        prove!(i < size);
+        self.tables[i] = key.table;
+        self.ids[i] = key.id;
+    }
+
+    pub(crate) fn insert(&mut self, i: usize, key: Key)
+        requires at_most { i ≤ length self.old }
+        requires room { length self.old < 16 }
+        ensures { self.new ≡ insert self.old i key }
+    {
+        let mut carried = key;
+        for j in i..self.len() {
+            let next = self.at(j);
+            self.set(j, carried);
+            carried = next;
+        }
+        self.push(carried);
+    }
+}

@@ -1,0 +1,210 @@
+//! Sets of at most sixteen keys.
+ghost use Rattle.std.specs.Prelude.{◌≡◌, ℕ, ◌<◌, ◌≤◌, ◌↔◌, [], ◌∷◌, length, IsTrue, nat_le, slice_get, IfOk, OnOk, OnErr, IsErr, IsErrOf, IsOkUnless, MatchResult};
+ghost use Rattle.std.specs.List.{list_any, list_all};
+ghost use Rattle.calvin_types.specs.KeyPlaces.{IsAt, IsMissingAt};
+ghost use Rattle.calvin_types.specs.Keys.{rises, has, insert_key, insert_all, partition_of};
+ghost use Rattle.calvin_types.specs.Participants.{site, is_local, local_keys};
+
+use crate::config::Config;
+use crate::fault::Fault;
+use crate::key::Key;
+use crate::key_list::KeyList;
+use std::cmp::Ordering;
+use std::marker::Model;
+
+/// A set of at most sixteen keys, which contracts see as the list of its keys, rising.
+#[derive(Clone, Copy, Debug, PartialEq, Eq)]
+pub struct KeySet {
+    keys: KeyList,
+}
+
+impl Model for KeySet {
+    ghost use Rattle.std.specs.Prelude.{List, length, IsTrue};
+    ghost use Rattle.calvin_types.specs.declared.key.Key.{Key};
+    ghost use Rattle.calvin_types.specs.Keys.{rises};
+
+    ghost Value = { List Key };
+
+    ghost view = { λ s. s.keys };
+
+    ghost invariant = { λ s. IsTrue (rises s.keys) };
+
+    ghost inverse = { λ ks. record { keys = ks } };
+}
+
+impl KeySet {
+    /// The set of no key.
+    pub fn new() -> KeySet
+        ensures { result ≡ [] }
+    {
+        KeySet {
+            keys: KeyList::new(),
+        }
+    }
+
+    /// The set of one key.
+    pub fn of(key: Key) -> KeySet
+        ensures { result ≡ key ∷ [] }
+    {
+        let mut keys = KeyList::new();
+        keys.push(key);
+        KeySet { keys }
+    }
+
+    /// How many keys there are.
+    pub fn len(&self) -> usize
+        ensures len { result ≡ length self.now }
+        ensures at_most { length self.now ≤ 16 }
+        ensures rising { IsTrue (rises self.now) }
+    {
+        self.keys.len()
+    }
+
+    /// Whether there is no key.
+    pub fn is_empty(&self) -> bool
+        ensures { IsTrue result ↔ (length self.now ≡ 0) }
+    {
+        self.keys.len() == 0
+    }
+
+    /// The key with `i` keys below it.
+    pub fn at(&self, i: usize) -> Key
+        requires { i < length self.now }
+        ensures { slice_get self.now i ≡ Some result }
+    {
+        self.keys.at(i)
+    }
+
+    /// The key with `i` keys below it, if there is one.
+    pub fn get(&self, i: usize) -> Option<Key>
+        ensures { result ≡ slice_get self.now i }
+    {
+        if i < self.keys.len() {
+            Some(self.keys.at(i))
+        } else {
+            None
+        }
+    }
+
+    /// Whether the key is in the set.
+    pub fn has(&self, key: Key) -> bool
+        ensures { result ≡ has self.now key }
+    {
+        place_of(&self.keys, key).is_ok()
+    }
+
+    /// Adds a key, unless it is there. Refused with `TooManyKeys` where it would be the seventeenth.
+    pub fn insert(&mut self, key: Key) -> Result<(), Fault>
+        ensures ok { OnOk result (self.new ≡ insert_key key self.old) }
+        ensures err { OnErr result (self.new ≡ self.old) }
+        ensures only { IsOkUnless result Fault.TooManyKeys }
+        ensures full { IsErr result ↔ (16 < length (insert_key key self.old)) }
+        ensures at_most { length self.new ≤ 16 }
+    {
+        if let Err(i) = place_of(&self.keys, key) {
+            if self.keys.len() == 16 {
+                return Err(Fault::TooManyKeys);
+            }
+            self.keys.insert(i, key);
+        }
+        Ok(())
+    }
+
+    /// The keys of both sets. Refused with `TooManyKeys` where these are more than sixteen.
+    pub fn union(&self, other: &KeySet) -> Result<KeySet, Fault>
+        ensures ok { IfOk result (λ all. all ≡ insert_all other.now self.now) }
+        ensures only { IsOkUnless result Fault.TooManyKeys }
+        ensures full { IsErr result ↔ (16 < length (insert_all other.now self.now)) }
+    {
+        let mut all = *self;
+        let _size = all.len();
+        for i in 0..other.len() {
+            all.insert(other.at(i))?;
+        }
+        Ok(all)
+    }
+
+    /// The keys that a partition stores.
+    pub fn part(&self, config: &Config, partition: u8) -> KeySet
+        ensures { result ≡ local_keys (site config.now.partitions partition) self.now }
+    {
+        let mut keys = KeyList::new();
+        for i in 0..self.keys.len() {
+            let key = self.keys.at(i);
+            if config.partition_of(&key) == partition {
+                keys.push(key);
+            }
+        }
+        KeySet { keys }
+    }
+
+    /// Whether a partition stores one of the keys.
+    pub fn has_local(&self, config: &Config, partition: u8) -> bool
+        ensures { result ≡ list_any (is_local (site config.now.partitions partition)) self.now }
+    {
+        for i in 0..self.len() {
+            if config.partition_of(&self.at(i)) == partition {
+                return true;
+            }
+        }
+        false
+    }
+
+    /// Whether no key is stored in a lower partition.
+    pub fn is_none_below(&self, config: &Config, partition: u8) -> bool
+        ensures { result ≡ list_all (λ k. nat_le partition (partition_of config.now.partitions k)) self.now }
+    {
+        for i in 0..self.len() {
+            if config.partition_of(&self.at(i)) < partition {
+                return false;
+            }
+        }
+        true
+    }
+
+    /// The set of distinct keys, in any order. Refused with `TooManyKeys` for more than sixteen keys, and with `Repeated`
+    /// where one comes twice.
+    pub fn from_slice(keys: &[Key]) -> Result<KeySet, Fault>
+        ensures ok { IfOk result (λ all. all ≡ insert_all keys.now []) }
+        ensures many { IsErrOf result Fault.TooManyKeys ↔ (16 < length keys.now) }
+        ensures repeated { IsErrOf result Fault.Repeated ↔ ((length keys.now ≤ 16) × (length (insert_all keys.now []) < length keys.now)) }
+    {
+        if keys.len() > MOST_KEYS {
+            return Err(Fault::TooManyKeys);
+        }
+        let mut all = KeySet::new();
+        for &key in keys {
+            let before = all.len();
+            all.insert(key)?;
+            if all.len() == before {
+                return Err(Fault::Repeated);
+            }
+        }
+        Ok(all)
+    }
+}
+
+/// The most keys of a set.
+pub const MOST_KEYS: usize = 16;
+
+/// The place of a key, or the place that it would take.
+fn place_of(keys: &KeyList, key: Key) -> Result<usize, usize>
+    requires { IsTrue (rises keys.now) }
+    ensures { MatchResult result (IsAt key keys.now) (IsMissingAt key keys.now) }
+{
+    for i in 0..keys.len() {
+        match key.cmp(&keys.at(i)) {
+            Ordering::Less => return Err(i),
+            Ordering::Equal => return Ok(i),
+            Ordering::Greater => {}
+        }
+    }
+    Err(keys.len())
+}
+
+/// The keys that a request reads and the keys that it writes.
+#[derive(Clone, Copy, Debug, PartialEq, Eq)]
+pub struct Sets {
+    pub reads: KeySet,
+    pub writes: KeySet,
+}

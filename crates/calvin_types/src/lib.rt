@@ -1,0 +1,25 @@
+//! What everything in calvin speaks of: keys and sets of at most sixteen keys, requests and batches of them, the names
+//! of places, slots, ballots and nodes, how many partitions and replicas there are and which of them take part in a
+//! request, and the one type of faults.
+#![tactic(auto)]
+
+mod batch;
+mod config;
+mod fault;
+mod few;
+mod key;
+mod key_list;
+mod key_set;
+mod place;
+mod shared;
+mod txn;
+
+pub use batch::Batch;
+pub use config::Config;
+pub use fault::Fault;
+pub use few::Few;
+pub use key::Key;
+pub use key_set::{KeySet, MOST_KEYS, Sets};
+pub use place::{Ballot, NodeId, Place, RequestId, Slot};
+pub use shared::Shared;
+pub use txn::Txn;

@@ -1,0 +1,44 @@
+//! A request with its declared sets.
+ghost use Rattle.std.specs.Prelude.{◌≡◌};
+ghost use Rattle.calvin_types.specs.Participants.{site, has_local_key, is_least, is_active};
+
+use crate::config::Config;
+use crate::key_set::Sets;
+use crate::place::RequestId;
+
+/// A request: its name, the number of the attempt (from 1), the application's arguments, and the declared sets.
+#[derive(Clone, Copy, Debug, PartialEq, Eq)]
+pub struct Txn<Args> {
+    pub id: RequestId,
+    pub attempt: u8,
+    pub args: Args,
+    pub sets: Sets,
+}
+
+impl<Args: Copy> Txn<Args> {
+    /// Whether a partition takes part: it stores a declared key.
+    pub fn is_participant(&self, config: &Config, partition: u8) -> bool
+        ensures { result ≡ has_local_key (site config.now.partitions partition) self.now }
+    {
+        self.sets.reads.has_local(config, partition)
+            || self.sets.writes.has_local(config, partition)
+    }
+
+    /// Whether a partition is the participant of least number.
+    pub fn is_least_participant(&self, config: &Config, partition: u8) -> bool
+        ensures { result ≡ is_least (site config.now.partitions partition) self.now }
+    {
+        self.is_participant(config, partition)
+            && self.sets.reads.is_none_below(config, partition)
+            && self.sets.writes.is_none_below(config, partition)
+    }
+
+    /// Whether a partition runs the request: it stores a key that is written, or is the least participant, so that a
+    /// request that only reads has an answerer.
+    pub fn is_active(&self, config: &Config, partition: u8) -> bool
+        ensures { result ≡ is_active (site config.now.partitions partition) self.now }
+    {
+        self.sets.writes.has_local(config, partition)
+            || self.is_least_participant(config, partition)
+    }
+}
