@@ -1,4 +1,5 @@
 pub mod Fews
+pub mod HashMaps
 pub mod KeyLists
 pub mod Risings
 pub mod Tests

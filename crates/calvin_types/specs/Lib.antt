@@ -9,4 +9,5 @@ pub mod Limits
 pub mod Orders
 pub mod Participants
 pub mod Places
+pub mod SameKeys
 pub mod Texts

@@ -7,7 +7,7 @@ use std::marker::Model;
 
 /// At most sixteen keys, which contracts see as their list. Tables and numbers stand apart, so that a key takes nine
 /// bytes and not sixteen; unused places are zero.
-#[derive(Clone, Copy, Debug, PartialEq, Eq)]
+#[derive(Clone, Copy, Debug)]
 pub(crate) struct KeyList {
     tables: [u8; 16],
     ids: [u64; 16],
@@ -28,6 +28,32 @@ impl Model for KeyList {
     ghost inverse = { λ ks. record { tables = tables_of ks; ids = ids_of ks; size = length ks } };
 
     ghost inverse_ok = { λ a h i. record { tables = h.tables_are i; ids = h.ids_are i; size = h.size_is i } };
+}
+
+impl PartialEq for KeyList {
+    ghost use Rattle.calvin_types.specs.SameKeys.{same_keys, same_keys_per};
+
+    ghost eq = { same_keys };
+
+    ghost laws = { same_keys_per };
+
+    fn eq(&self, other: &KeyList) -> bool {
+        if self.len() != other.len() {
+            return false;
+        }
+        for i in 0..self.len() {
+            if self.at(i) != other.at(i) {
+                return false;
+            }
+        }
+        true
+    }
+}
+
+impl Eq for KeyList {
+    ghost use Rattle.calvin_types.specs.SameKeys.{same_keys_equiv};
+
+    ghost laws = { same_keys_equiv };
 }
 
 impl KeyList {
