@@ -1,7 +1,7 @@
 -- Keys that rise, and a key put among them.
 use Rattle.std.proofs.Common.{◌≡◌, ◌≢◌, ℕ, ◌+◌, ◌%◌, ◌<◌, ◌≤◌, Bool, true, false, cond, ◌&&◌, ◌||◌, List, [], ◌∷◌, ◌++◌, length, take, drop, Some, slice_get, refl, sym, ◌∙◌, ap, append_assoc, arith}
-use Rattle.std.specs.List.{insert}
-use Rattle.std.proofs.lemmas.Bool.{false≢true, eq-eqb, ne_eqb}
+use Rattle.std.specs.List.{filter, insert}
+use Rattle.std.proofs.lemmas.Bool.{false≢true}
 use Rattle.std.proofs.lemmas.List.{take_more, drop_all, take-append-drop, length-drop, append-nil}
 use Rattle.std.proofs.lemmas.Option.{slice_get_within, get_or_from_slice_get}
 use Rattle.std.specs.declared.cmp.Ordering.{Ordering}
@@ -9,7 +9,6 @@ use Rattle.std.specs.declared.cmp.Ordering.TheVariants.{Less, Equal, Greater}
 use Rattle.std.specs.Ordering.{is_lt, is_eq, ordering_reverse}
 use Rattle.calvin_types.specs.declared.key.Key.{Key}
 use Rattle.calvin_types.specs.Keys.{key_cmp, has, below_all, rises, by_order, insert_key, insert_all}
-use Rattle.calvin_types.specs.Participants.{site, is_local, local_keys}
 use Rattle.calvin_types.specs.KeyOrder.{key_cmp_total}
 use Rattle.calvin_types.specs.KeyPlaces.{IsAt, IsMissingAt}
 use Rattle.calvin_types.proofs.Fews.{drop_at}
@@ -149,24 +148,24 @@ one_more ks q h = omega (arith, length-grows q ks, length-grows_by q ks)
 pub at_most_one_more : (ks : List Key) (q : Key) → length (insert_key q ks) ≤ length ks + 1
 at_most_one_more ks q = length-grows_by q ks
 
-below_part : (n p : ℕ) (x : Key) (ks : List Key) → below_all x ks ≡ true → below_all x (local_keys (site n p) ks) ≡ true
-below_part n p x [] h = refl
-below_part n p x (k ∷ ks) h = elim (is_local (site n p) k) as (λ b. below_all x (cond b (k ∷ local_keys (site n p) ks) (local_keys (site n p) ks)) ≡ true) [ true ↦ both _ _ (first _ _ h) (below_part n p x ks (second _ _ h)) | false ↦ below_part n p x ks (second _ _ h) ]
+below_filter : (p : Key → Bool) (x : Key) (ks : List Key) → below_all x ks ≡ true → below_all x (filter p ks) ≡ true
+below_filter p x [] h = refl
+below_filter p x (k ∷ ks) h = elim (p k) as (λ b. below_all x (cond b (k ∷ filter p ks) (filter p ks)) ≡ true) [ true ↦ both _ _ (first _ _ h) (below_filter p x ks (second _ _ h)) | false ↦ below_filter p x ks (second _ _ h) ]
 
--- the keys of a partition rise
-pub rises-local_keys : (n p : ℕ) (ks : List Key) → rises ks ≡ true → rises (local_keys (site n p) ks) ≡ true
-rises-local_keys n p [] h = refl
-rises-local_keys n p (k ∷ ks) h = elim (is_local (site n p) k) as (λ b. rises (cond b (k ∷ local_keys (site n p) ks) (local_keys (site n p) ks)) ≡ true) [ true ↦ both _ _ (below_part n p k ks (first _ _ h)) (rises-local_keys n p ks (second _ _ h)) | false ↦ rises-local_keys n p ks (second _ _ h) ]
+-- the keys that pass a test rise
+pub rises-filter : (p : Key → Bool) (ks : List Key) → rises ks ≡ true → rises (filter p ks) ≡ true
+rises-filter p [] h = refl
+rises-filter p (k ∷ ks) h = elim (p k) as (λ b. rises (cond b (k ∷ filter p ks) (filter p ks)) ≡ true) [ true ↦ both _ _ (below_filter p k ks (first _ _ h)) (rises-filter p ks (second _ _ h)) | false ↦ rises-filter p ks (second _ _ h) ]
 
-pub local_keys-at : (n p : ℕ) (ks : List Key) (i : ℕ) (k : Key) → slice_get ks i ≡ Some k → local_keys (site n p) (drop i ks) ≡ cond (is_local (site n p) k) (k ∷ local_keys (site n p) (drop (i + 1) ks)) (local_keys (site n p) (drop (i + 1) ks))
-local_keys-at n p ks i k here = ap (local_keys (site n p)) (drop_at ks i k here)
+module _ (p : Key → Bool) (ks out all : List Key) (i : ℕ) (k : Key) (here : slice_get ks i ≡ Some k) (so : out ++ filter p (drop i ks) ≡ all) where
+  at_place : (b : Bool) → p k ≡ b → out ++ cond b (k ∷ filter p (drop (i + 1) ks)) (filter p (drop (i + 1) ks)) ≡ all
+  at_place b is = ap (λ b. out ++ cond b (k ∷ filter p (drop (i + 1) ks)) (filter p (drop (i + 1) ks))) (sym is) ∙ ap (λ xs. out ++ filter p xs) (sym (drop_at ks i k here)) ∙ so
 
-module _ (n p : ℕ) (ks out all : List Key) (i : ℕ) (k : Key) (here : slice_get ks i ≡ Some k) (so : out ++ local_keys (site n p) (drop i ks) ≡ all) where
-  pub part_taken : k.id % n ≡ p → (out ++ k ∷ []) ++ local_keys (site n p) (drop (i + 1) ks) ≡ all
-  part_taken is = append_assoc out (k ∷ []) (local_keys (site n p) (drop (i + 1) ks)) ∙ ap (λ b. out ++ cond b (k ∷ local_keys (site n p) (drop (i + 1) ks)) (local_keys (site n p) (drop (i + 1) ks))) (sym (eq-eqb (k.id % n) p is)) ∙ ap (λ xs. out ++ xs) (sym (local_keys-at n p ks i k here)) ∙ so
+  pub kept : p k ≡ true → (out ++ k ∷ []) ++ filter p (drop (i + 1) ks) ≡ all
+  kept is = append_assoc out (k ∷ []) (filter p (drop (i + 1) ks)) ∙ at_place true is
 
-  pub part_passed : (k.id % n ≡ p → ⊥) → out ++ local_keys (site n p) (drop (i + 1) ks) ≡ all
-  part_passed other = ap (λ b. out ++ cond b (k ∷ local_keys (site n p) (drop (i + 1) ks)) (local_keys (site n p) (drop (i + 1) ks))) (sym (ne_eqb (k.id % n) p other)) ∙ ap (λ xs. out ++ xs) (sym (local_keys-at n p ks i k here)) ∙ so
+  pub passed : p k ≡ false → out ++ filter p (drop (i + 1) ks) ≡ all
+  passed is = at_place false is
 
-pub part_done : (n p : ℕ) (ks out : List Key) (i : ℕ) → length ks ≤ i → out ++ local_keys (site n p) (drop i ks) ≡ local_keys (site n p) ks → out ≡ local_keys (site n p) ks
-part_done n p ks out i past so = sym (append-nil out) ∙ ap (λ xs. out ++ local_keys (site n p) xs) (sym (drop_all i ks past)) ∙ so
+pub all_passed : (p : Key → Bool) (ks out : List Key) (i : ℕ) → length ks ≤ i → out ++ filter p (drop i ks) ≡ filter p ks → out ≡ filter p ks
+all_passed p ks out i past so = sym (append-nil out) ∙ ap (λ xs. out ++ filter p xs) (sym (drop_all i ks past)) ∙ so

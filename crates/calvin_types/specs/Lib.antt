@@ -10,4 +10,3 @@ pub mod Orders
 pub mod Participants
 pub mod Places
 pub mod SameKeys
-pub mod Texts

@@ -1,6 +1,6 @@
 //! Sets of at most sixteen keys.
-ghost use Rattle.std.specs.Prelude.{◌≡◌, ℕ, ◌<◌, ◌≤◌, ◌↔◌, [], ◌∷◌, length, IsTrue, nat_le, slice_get, IfOk, OnOk, OnErr, IsErr, IsErrOf, IsOkUnless, MatchResult};
-ghost use Rattle.std.specs.List.{list_any, list_all};
+ghost use Rattle.std.specs.Prelude.{◌≡◌, ◌==◌, ℕ, ◌<◌, ◌≤◌, ◌↔◌, [], ◌∷◌, length, IsTrue, nat_le, slice_get, IfOk, OnOk, OnErr, IsErr, IsErrOf, IsOkUnless, MatchResult};
+ghost use Rattle.std.specs.List.{filter, list_any, list_all};
 ghost use Rattle.calvin_types.specs.KeyPlaces.{IsAt, IsMissingAt};
 ghost use Rattle.calvin_types.specs.Keys.{rises, has, insert_key, insert_all, partition_of};
 ghost use Rattle.calvin_types.specs.Participants.{site, is_local, local_keys};
@@ -132,6 +132,21 @@ impl KeySet {
         for i in 0..self.keys.len() {
             let key = self.keys.at(i);
             if config.partition_of(&key) == partition {
+                keys.push(key);
+            }
+        }
+        KeySet { keys }
+    }
+
+    /// The keys of a table.
+    pub fn of_table(&self, table: u8) -> KeySet
+        ensures keys { result ≡ filter (λ k. k.table == table) self.now }
+        ensures at_most { length result ≤ 16 }
+    {
+        let mut keys = KeyList::new();
+        for i in 0..self.keys.len() {
+            let key = self.keys.at(i);
+            if key.table == table {
                 keys.push(key);
             }
         }

@@ -1,7 +1,4 @@
 //! The names of requests, places, slots, ballots and nodes, each ordered by its fields in turn.
-ghost use Rattle.std.specs.Prelude.{◌≡◌};
-
-use std::fmt;
 
 /// A request of a client: the client, and the client's own number for it.
 #[derive(Clone, Copy, Debug, PartialEq, Eq, PartialOrd, Ord, Hash)]
@@ -37,26 +34,4 @@ pub struct Ballot {
 pub struct NodeId {
     pub replica: u8,
     pub partition: u8,
-}
-
-impl fmt::Display for Place {
-    ghost use Rattle.std.specs.Prelude.{Some};
-    ghost use Rattle.calvin_types.specs.Texts.{place_text};
-
-    ghost output = { λ p. Some (place_text p) };
-
-    fn fmt<W: fmt::Write>(&self, f: &mut fmt::Formatter<W>) -> fmt::Result {
-        write!(f, "{}.{}", self.epoch, self.n)
-    }
-}
-
-impl fmt::Display for RequestId {
-    ghost use Rattle.std.specs.Prelude.{Some};
-    ghost use Rattle.calvin_types.specs.Texts.{id_text};
-
-    ghost output = { λ id. Some (id_text id) };
-
-    fn fmt<W: fmt::Write>(&self, f: &mut fmt::Formatter<W>) -> fmt::Result {
-        write!(f, "{}:{}", self.client, self.number)
-    }
 }
