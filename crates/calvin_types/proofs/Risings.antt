@@ -1,5 +1,5 @@
 -- Keys that rise, and a key put among them.
-use Rattle.std.proofs.Common.{◌≡◌, ◌≢◌, ℕ, ◌+◌, ◌%◌, ◌<◌, ◌≤◌, Bool, true, false, cond, ◌&&◌, ◌||◌, List, [], ◌∷◌, ◌++◌, length, take, drop, Some, slice_get, refl, sym, ◌∙◌, ap, append_assoc, arith}
+use Rattle.std.proofs.Common.{◌≡◌, ◌≢◌, ℕ, ◌+◌, ◌<◌, ◌≤◌, Bool, true, false, cond, ◌||◌, List, [], ◌∷◌, ◌++◌, length, take, drop, Some, slice_get, refl, sym, ◌∙◌, ap, append_assoc, arith}
 use Rattle.std.specs.List.{filter, insert}
 use Rattle.std.proofs.lemmas.Bool.{false≢true}
 use Rattle.std.proofs.lemmas.List.{take_more, drop_all, take-append-drop, length-drop, append-nil}
@@ -8,22 +8,11 @@ use Rattle.std.specs.declared.cmp.Ordering.{Ordering}
 use Rattle.std.specs.declared.cmp.Ordering.TheVariants.{Less, Equal, Greater}
 use Rattle.std.specs.Ordering.{is_lt, is_eq, ordering_reverse}
 use Rattle.calvin_types.specs.declared.key.Key.{Key}
+use Rattle.calvin_types.specs.Exact.{first, second, both}
 use Rattle.calvin_types.specs.Keys.{key_cmp, has, below_all, rises, by_order, insert_key, insert_all}
 use Rattle.calvin_types.specs.KeyOrder.{key_cmp_total}
 use Rattle.calvin_types.specs.KeyPlaces.{IsAt, IsMissingAt}
 use Rattle.calvin_types.proofs.Fews.{drop_at}
-
-first : (a b : Bool) → (a && b) ≡ true → a ≡ true
-first true b h = refl
-first false b h = absurd (false≢true h)
-
-second : (a b : Bool) → (a && b) ≡ true → b ≡ true
-second true b h = h
-second false b h = absurd (false≢true h)
-
-both : (a b : Bool) → a ≡ true → b ≡ true → (a && b) ≡ true
-both true b p q = q
-both false b p q = p
 
 less : (o : Ordering) → is_lt o ≡ true → o ≡ Less
 less Less h = refl

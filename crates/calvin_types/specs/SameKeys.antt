@@ -1,13 +1,14 @@
 -- Whether two lists of keys, or two pairs of sets, are the same.
 --     equal_keys a b      whether two keys are the same
 --     same_keys, same_sets      whether lists of keys are, one by one;  whether both sets are
-use Rattle.std.specs.Prelude.{◌≡◌, Bool, true, false, ◌&&◌, ◌==◌, List, [], ◌∷◌, refl}
+use Rattle.std.specs.Prelude.{◌≡◌, Bool, true, false, ◌&&◌, ◌==◌, List, refl}
 use Rattle.std.specs.Cmp.{IsEquivalence, IsPartialEquivalence, partial_equiv_from_equiv}
-use Rattle.std.specs.Cmp.Lexicographic.{pointwise, lists_equiv, lists_per}
+use Rattle.std.specs.Cmp.Lexicographic.{pointwise, lists_equiv}
 use Rattle.std.proofs.Common.{sym, ap, ◌∙◌}
 use Rattle.std.proofs.lemmas.Bool.{eqb-true, eq-eqb, false≢true}
 use Rattle.calvin_types.specs.declared.key.Key.{Key}
 use Rattle.calvin_types.specs.declared.key_set.Sets.{Sets}
+use Rattle.calvin_types.specs.Exact.{first, second}
 
 abbrev pub equal_keys : Key → Key → Bool
 equal_keys a b = (a.table == b.table) && (a.id == b.id)
@@ -18,14 +19,6 @@ same_keys = pointwise equal_keys
 -- whether declared sets are those that are needed
 abbrev pub same_sets : Sets → Sets → Bool
 same_sets a b = same_keys a.reads b.reads && same_keys a.writes b.writes
-
-first : (a b : Bool) → (a && b) ≡ true → a ≡ true
-first true b h = refl
-first false b h = absurd (false≢true h)
-
-second : (a b : Bool) → (a && b) ≡ true → b ≡ true
-second true b h = h
-second false b h = absurd (false≢true h)
 
 pub equal_keys_exact : (a b : Key) → equal_keys a b ≡ true → a ≡ b
 equal_keys_exact a b h = λ i. record { table = eqb-true a.table b.table (first _ _ h) i; id = eqb-true a.id b.id (second (a.table == b.table) _ h) i }

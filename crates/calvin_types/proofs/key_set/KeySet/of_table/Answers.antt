@@ -1,8 +1,7 @@
-use Rattle.std.proofs.Common.{◌∙◌, ◌+◌, ◌++◌, ◌∷◌, [], ◌==◌, ap, sym, drop, length, length-append, arith}
+use Rattle.std.proofs.Common.{◌∙◌, ◌+◌, ◌++◌, ◌∷◌, [], ◌==◌, ap, drop, length, length-append, arith}
 use Rattle.std.specs.List.{filter}
 use Rattle.std.proofs.lemmas.Bool.{eq-eqb, ne_eqb}
 use Rattle.calvin_types.specs.Keys.{rises}
-use Rattle.calvin_types.specs.declared.key.Key.{Key}
 use Rattle.calvin_types.proofs.Risings.{rises-filter, kept, passed, all_passed}
 use Rattle.calvin_types.proofs.key_set.KeySet.of_table.Goals as goal
 use Rattle.calvin_types.proofs.key_set.KeySet.of_table.Goals.{then-key-table, else-key-table}

@@ -1,0 +1,8 @@
+pub mod Fresh
+pub mod Puts
+pub mod Results
+pub mod RowTables
+pub mod Runs
+pub mod Values
+pub mod Views
+pub mod Written

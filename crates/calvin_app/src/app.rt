@@ -1,0 +1,64 @@
+//! What an application is.
+ghost use Rattle.std.specs.Prelude.{◌≡◌, ℕ, Bool};
+ghost use Rattle.std.specs.Mem.{FitsInMemory};
+ghost use Rattle.calvin_app.specs.Meaning.{Meaning, IsLawful, IsExact};
+ghost use Rattle.calvin_app.specs.contracts.view.View.{the_row as the_view_row};
+
+use crate::view::View;
+use crate::writes::Writes;
+use calvin_types::Sets;
+
+/// An application: which keys a request needs, and what it does. Both follow from its arguments and from the rows that
+/// it sees alone, so that every node that runs a request does the same (Thomson et al. 2012, section 2).
+pub trait App {
+    /// What a request asks for.
+    type Args: Copy + Eq;
+
+    type Row: Copy + Eq;
+
+    /// What a request is told.
+    type Reply: Copy + Eq;
+
+    /// The sets that arguments need on a view, and their reply and writes on it.
+    ghost meaning: { Meaning Self.Args Self.Row Self.Reply };
+
+    /// Whether the sets that arguments need may depend on rows.
+    ghost is_dependent: { Self.Args → Bool };
+
+    ghost key_limit: { ℕ };
+
+    ghost table_limit: { ℕ };
+
+    /// No set that a request needs has more keys than this; it is at most 16.
+    fn most_keys(&self) -> usize
+        ensures { result ≡ key_limit };
+
+    /// No key that a request needs is in a table above this.
+    fn top_table(&self) -> u8
+        ensures { result ≡ table_limit };
+
+    /// Whether the sets may depend on rows, so that they have to be looked for before the request can be declared.
+    fn dependent(&self, args: &Self::Args) -> bool
+        ensures { result ≡ is_dependent args.now };
+
+    /// The sets that the request needs on these rows.
+    fn sets(&self, args: &Self::Args, view: &View<Self::Row>) -> Sets
+        ensures { result ≡ meaning.needs args.now view.now };
+
+    /// What the request is told and what it writes on these rows.
+    fn run(&self, args: &Self::Args, view: &View<Self::Row>) -> (Self::Reply, Writes<Self::Row>)
+        ensures { result ≡ meaning.outcome args.now view.now };
+
+    /// The laws of applications.
+    ghost lawful: { IsLawful meaning is_dependent key_limit table_limit };
+
+    /// Sixteen rows fit in memory.
+    ghost rows_fit: { FitsInMemory (the_view_row Self.Row.row) };
+
+    /// Arguments, rows and replies that compare equal are the same.
+    ghost args_exact: { IsExact Self.Args.eq };
+
+    ghost rows_exact: { IsExact Self.Row.eq };
+
+    ghost replies_exact: { IsExact Self.Reply.eq };
+}

@@ -1,0 +1,19 @@
+//! Applications: what one is, the laws that it keeps, and the run of its requests one at a time on one undivided map.
+//! `Kv`, numbers by key, is the first.
+#![tactic(auto)]
+
+mod answer;
+mod app;
+mod kv;
+mod serial;
+mod table;
+mod view;
+mod writes;
+
+pub use answer::Answer;
+pub use app::App;
+pub use kv::{Kv, KvReply, KvRequest};
+pub use serial::Serial;
+pub use table::Table;
+pub use view::View;
+pub use writes::Writes;

@@ -1,0 +1,89 @@
+//! Requests run one at a time.
+ghost use Rattle.calvin_app.specs.declared.answer.Answer.TheVariants.{Changed};
+ghost use Rattle.std.specs.Prelude.{◌≡◌, ◌≢◌, ◌≤◌, ℕ, length, take, IfOk, OnOk, OnErr, IsOkUnless};
+ghost use Rattle.std.specs.FinMap as map;
+ghost use Rattle.calvin_app.specs.Serial.{answer_one, after_one, serial};
+
+use crate::answer::Answer;
+use crate::app::App;
+use crate::table::Table;
+use calvin_types::{Fault, Txn};
+use std::alloc::Global;
+use std::marker::Model;
+
+/// An application with all rows on one map, which runs one request after another. Contracts see it as its rows.
+#[derive(Drop)]
+pub struct Serial<A: App> {
+    app: A,
+    rows: Table<A::Row>,
+}
+
+impl<A: App> Model for Serial<A> {
+    ghost use Rattle.std.specs.FinMap as map;
+    ghost use Rattle.calvin_types.specs.Keys.{key_cmp};
+    ghost use Rattle.calvin_types.specs.KeyCode.{coded_key};
+
+    ghost Value = { map.FinMap key_cmp A.Row };
+
+    ghost coded = { map.code coded_key A.Row.code };
+
+    ghost view = { λ s. s.rows };
+}
+
+impl<A: App> Serial<A> {
+    /// The application on no rows.
+    pub fn new(alloc: Global, app: A) -> Serial<A>
+        ensures { result ≡ map.empty }
+    {
+        Serial {
+            app,
+            rows: Table::new(alloc),
+        }
+    }
+
+    /// All rows.
+    pub fn rows(&self) -> &Table<A::Row>
+        ensures { result.now ≡ self.now }
+    {
+        &self.rows
+    }
+
+    /// Runs one request. Refused for want of memory alone, and then nothing has changed.
+    #[tactic(auto, unfolding(crate::specs::Serial::answer_on, crate::specs::Serial::writes_on))]
+    pub fn apply(&mut self, txn: &Txn<A::Args>) -> Result<Answer<A::Reply>, Fault>
+        ensures answer { IfOk result (λ answer. answer ≡ answer_one A.meaning txn.now self.old) }
+        ensures ok { OnOk result (self.new ≡ after_one A.meaning txn.now self.old) }
+        ensures err { OnErr result (self.new ≡ self.old) }
+
+        // A request with the sets that it needs of all rows is run.
+        ensures fresh { A.meaning.needs txn.now.args self.old ≡ txn.now.sets → result ≢ Ok Changed }
+        ensures only { IsOkUnless result Fault.OutOfMemory }
+    {
+        let view = self.rows.view_of(&txn.sets.reads);
+        if self.app.sets(&txn.args, &view) != txn.sets {
+            return Ok(Answer::Changed);
+        }
+        let (reply, writes) = self.app.run(&txn.args, &view);
+        self.rows.overwrite(&writes)?;
+        Ok(Answer::Reply(reply))
+    }
+
+    /// Runs requests one after another. Refused for want of memory alone, and then the requests of some beginning have
+    /// been run and no others.
+    pub fn run(
+        &mut self,
+        alloc: Global,
+        txns: &[Txn<A::Args>],
+    ) -> Result<Vec<Answer<A::Reply>>, Fault>
+        ensures answers { IfOk result (λ answers. answers.items ≡ (serial A.meaning txns.now self.old).1) }
+        ensures ok { OnOk result (self.new ≡ (serial A.meaning txns.now self.old).0) }
+        ensures err { OnErr result ((n : ℕ) × (n ≤ length txns.now) × (self.new ≡ (serial A.meaning (take n txns.now) self.old).0)) }
+        ensures only { IsOkUnless result Fault.OutOfMemory }
+    {
+        let mut answers = Vec::with_capacity(alloc, txns.len())?;
+        for txn in txns {
+            answers.push(self.apply(txn)?)?;
+        }
+        Ok(answers)
+    }
+}

@@ -1,0 +1,77 @@
+//! All rows, in memory.
+ghost use Rattle.std.specs.Prelude.{◌≡◌, OnOk, OnErr, IsOkUnless};
+ghost use Rattle.std.specs.FinMap as map;
+ghost use Rattle.calvin_app.specs.Rows.{view, overwritten};
+
+use crate::view::View;
+use crate::writes::Writes;
+use calvin_types::{Fault, Key, KeySet};
+use std::alloc::Global;
+use std::collections::HashMap;
+use std::marker::Model;
+
+/// Rows by key, which contracts see as a finite map. A row is found and written in expected constant time.
+#[derive(Drop)]
+pub struct Table<Row> {
+    rows: HashMap<Key, Row>,
+}
+
+impl<Row> Model for Table<Row> {
+    ghost use Rattle.std.specs.FinMap as map;
+    ghost use Rattle.calvin_types.specs.Keys.{key_cmp};
+    ghost use Rattle.calvin_types.specs.KeyCode.{coded_key};
+
+    ghost Value = { map.FinMap key_cmp Row };
+
+    ghost coded = { map.code coded_key Row.code };
+
+    ghost view = { λ a. map.from_entries a.rows.entries };
+}
+
+impl<Row: Copy> Table<Row> {
+    /// No rows.
+    pub fn new(alloc: Global) -> Table<Row>
+        ensures { result ≡ map.empty }
+    {
+        Table {
+            rows: HashMap::new(alloc),
+        }
+    }
+
+    /// The row of a key, if it has one.
+    pub fn get(&self, key: &Key) -> Option<Row>
+        ensures { result ≡ map.get self.now key.now }
+    {
+        self.rows.get(key).copied()
+    }
+
+    /// The rows of some keys.
+    pub fn view_of(&self, keys: &KeySet) -> View<Row>
+        ensures { result ≡ view self.now keys.now }
+    {
+        let mut view = View::new();
+        for i in 0..keys.len() {
+            let key = keys.at(i);
+            match self.get(&key) {
+                Some(row) => view.put(key, row),
+                None => {}
+            }
+        }
+        view
+    }
+
+    /// Overwrites rows, all of them or none.
+    pub fn overwrite(&mut self, writes: &Writes<Row>) -> Result<(), Fault>
+        ensures ok { OnOk result (self.new ≡ overwritten self.old writes.now) }
+        ensures err { OnErr result (self.new ≡ self.old) }
+        ensures only { IsOkUnless result Fault.OutOfMemory }
+    {
+        self.rows.reserve(writes.len())?;
+        for i in 0..writes.len() {
+            let (key, row) = writes.at(i);
+            let put: Result<_, _> = self.rows.insert(key, row);
+            let _before = put.unwrap();
+        }
+        Ok(())
+    }
+}

@@ -1,0 +1,95 @@
+// The rows that a request writes.
+ghost use Rattle.std.specs.Prelude.{◌≡◌, [], ◌∷◌, ◌++◌, ◌<◌, ◌≤◌, ◌↔◌, false, length, slice_get, OnOk, OnErr, IsErrOf, MatchOption};
+ghost use Rattle.calvin_app.specs.Places.{IsUnwritten, IsWrittenAt};
+ghost use Rattle.calvin_types.specs.Keys.{has};
+ghost use Rattle.calvin_app.specs.Writing.{keys_of, with_write};
+
+use calvin_types::{Fault, Few, Key};
+use std::alloc::AllocError;
+use std::marker::Model;
+
+/// At most sixteen keys with rows, which contracts see as the list of these pairs.
+pub struct Writes<Row> {
+    pairs: Few<(Key, Row)>,
+}
+
+impl<Row> Model for Writes<Row> {
+    ghost use Rattle.std.specs.Prelude.{List};
+    ghost use Rattle.calvin_types.specs.declared.key.Key.{Key};
+
+    ghost Value = { List (Key × Row) };
+
+    ghost view = { λ a. a.pairs };
+
+    ghost inverse = { λ ws. record { pairs = ws } };
+}
+
+impl<Row: Copy> Copy for Writes<Row> {}
+
+impl<Row: Copy> Clone for Writes<Row> {
+    fn clone(&self) -> Result<Writes<Row>, AllocError> {
+        Ok(*self)
+    }
+}
+
+impl<Row: Copy> Writes<Row> {
+    pub fn new() -> Writes<Row>
+        ensures { result ≡ [] }
+    {
+        Writes { pairs: Few::new() }
+    }
+
+    /// One row under one key.
+    pub fn of(key: Key, row: Row) -> Writes<Row>
+        ensures { result ≡ (key, row) ∷ [] }
+    {
+        let mut pairs = Few::new();
+        pairs.push((key, row));
+        Writes { pairs }
+    }
+
+    pub fn len(&self) -> usize
+        ensures len { result ≡ length self.now }
+        ensures at_most { length self.now ≤ 16 }
+    {
+        self.pairs.len()
+    }
+
+    pub fn at(&self, i: usize) -> (Key, Row)
+        requires { i < length self.now }
+        ensures { slice_get self.now i ≡ Some result }
+    {
+        self.pairs.at(i)
+    }
+
+    /// Writes a row, in place of the one that is written under this key already.
+    pub fn put(&mut self, key: Key, row: Row) -> Result<(), Fault>
+        ensures ok { OnOk result (self.new ≡ with_write key row self.old) }
+        ensures err { OnErr result (self.new ≡ self.old) }
+        ensures full { IsErrOf result Fault.TooManyKeys ↔ ((length self.old ≡ 16) × (has (keys_of self.old) key ≡ false)) }
+    {
+        match find_write(&self.pairs, key) {
+            Some(i) => self.pairs.set(i, (key, row)),
+            None => {
+                if self.pairs.len() == 16 {
+                    return Err(Fault::TooManyKeys);
+                }
+                self.pairs.push((key, row));
+            }
+        }
+        Ok(())
+    }
+}
+
+/// The place of a key among writes.
+fn find_write<Row: Copy>(pairs: &Few<(Key, Row)>, key: Key) -> Option<usize>
+    ensures { MatchOption result (IsUnwritten key pairs.now) (IsWrittenAt key pairs.now) }
+{
+    for i in 0..pairs.len() {
+        let (k, _row) = pairs.at(i);
+        if key == k {
+            return Some(i);
+        }
+    }
+    None
+}
