@@ -1,0 +1,33 @@
+-- How a command ends.
+--     status_of fault      the exit status of a fault: 2 where the script is refused, 4 for want of memory, 5 where a device failed
+--     IsStatus status      it is one of 0, 2, 4 and 5
+--     HasNoText answer      the script is refused
+--     Tells status old new      the line of a fault with this status was added
+use Rattle.std.specs.Prelude.{◌≡◌, ℕ, List, Option, Result, Ok, Err, ◌⊎◌}
+use Rattle.std.specs.Io.KnownBytes.{Appends}
+use Rattle.calvin_types.specs.declared.fault.Fault.{Fault}
+use Rattle.calvin_types.specs.declared.fault.Fault.TheVariants.{OutOfMemory, TooManyKeys, Repeated, BadConfig, TooLong, NotComplete, BadJson, BadScript, ScriptTooLong, ReadFailed, WriteFailed}
+use Rattle.calvin_edge.specs.Complaints.{complaint}
+
+abbrev pub status_of : Fault → ℕ
+status_of OutOfMemory = 4
+status_of TooManyKeys = 2
+status_of Repeated = 2
+status_of BadConfig = 2
+status_of TooLong = 2
+status_of NotComplete = 2
+status_of BadJson = 2
+status_of BadScript = 2
+status_of ScriptTooLong = 2
+status_of ReadFailed = 5
+status_of WriteFailed = 5
+
+abbrev pub IsStatus : ℕ → Type 0
+IsStatus status = (status ≡ 0) ⊎ (status ≡ 2) ⊎ (status ≡ 4) ⊎ (status ≡ 5)
+
+abbrev pub HasNoText : Result (List ℕ) Fault → Type 0
+HasNoText (Ok text) = ⊥
+HasNoText (Err fault) = Unit {0}
+
+abbrev pub Tells : ℕ → Option (List ℕ) → Option (List ℕ) → Type 0
+Tells status old new = (fault : Fault) × (status ≡ status_of fault) × Appends old new (complaint fault)

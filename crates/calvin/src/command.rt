@@ -1,0 +1,196 @@
+//! The command line, and how a command ends.
+
+ghost use Rattle.std.specs.Prelude.{◌≡◌, ◌≢◌, ◌+◌, map, codes, IfOk, IfSome, Some, true, ◌⊎◌};
+ghost use Rattle.std.specs.Io.KnownBytes.{Appends};
+ghost use Rattle.clap.specs.Words.{app_of, subcommand_name_of};
+ghost use Rattle.calvin.specs.Line.{calvin, IsSerial, IsSerialLine};
+ghost use Rattle.calvin_edge.specs.Complaints.{complaint};
+ghost use Rattle.calvin_serial.specs.Engine.{serial_text, HasText};
+ghost use Rattle.calvin.specs.Statuses.{status_of, IsStatus, HasNoText, Tells};
+
+use calvin_edge::{Sink, Source, complaint, write_all};
+use calvin_serial::serial;
+use calvin_types::Fault;
+use clap::error::ErrorKind;
+use clap::{ArgMatches, Command, Error};
+use std::alloc::{AllocError, Global};
+use std::convert::AsStr;
+
+/// What help says of scripts.
+const SCRIPT_HELP: &str = "\
+The script comes on standard input, as JSON of at most 1,048,576 bytes:
+
+  {\"partitions\":2,\"app\":\"kv\",
+   \"epochs\":[ [ {\"group\":0,\"txns\":[TXN, ..]}, .. ], .. ]}
+
+  TXN  {\"client\":7,\"number\":1,\"op\":OP}, and where wanted \"attempt\":1,
+       and \"reads\":[KEY, ..],\"writes\":[KEY, ..], both or neither
+  KEY  [table,id]
+  OP   [\"put\",k,v], [\"get\",[k, ..]] or [\"add\",k,d]
+
+Each request is answered by a line `epoch.n client:number answer`, in the merged
+order of all groups; the last line is `finished` and the last epoch, or none.";
+
+/// What help says of statuses.
+const STATUS_HELP: &str = "\
+Statuses:
+  0  all went well
+  2  the command line or the script is refused, and nothing is printed
+  4  memory ran out, and nothing is printed
+  5  reading or writing failed
+Standard error has one line that says why.";
+
+/// What a command line asks for.
+enum Wish {
+    Serial,
+    /// Help was asked for, and this is its text.
+    Help(Error),
+}
+
+/// Why a command line asks for nothing.
+enum Refusal {
+    BadLine,
+    OutOfMemory,
+}
+
+/// The exit status of a fault.
+pub fn status_of(fault: Fault) -> u8
+    ensures { result ≡ status_of fault }
+{
+    match fault {
+        Fault::OutOfMemory => 4,
+        Fault::ReadFailed | Fault::WriteFailed => 5,
+        _ => 2,
+    }
+}
+
+/// The program's command line.
+fn line<'a>(alloc: Global) -> Result<Command<'a>, AllocError>
+    ensures { IfOk result (λ c. app_of c ≡ calvin) }
+{
+    let serial = Command::new(alloc, "serial")
+        .about("Runs a script one request at a time and prints what each was answered")
+        .after_help(SCRIPT_HELP);
+    Command::new(alloc, "calvin")
+        .about("Calvin: a deterministic, partitioned, replicated transaction store")
+        .after_help(STATUS_HELP)
+        .subcommand_required(true)
+        .subcommand(serial)
+}
+
+fn asks_serial(matches: &ArgMatches<'_>) -> bool
+    ensures { subcommand_name_of matches.now ≡ Some (codes "serial") → result ≡ true }
+{
+    match matches.subcommand_name() {
+        Some(name) => name == "serial",
+        None => false,
+    }
+}
+
+fn parse<'a, W: AsStr>(alloc: Global, words: &'a [W]) -> Result<Wish, Refusal>
+    ensures { IsSerialLine (map W.text words.entry.now) → IsSerial result }
+{
+    let Ok(command) = line(alloc) else {
+        return Err(Refusal::OutOfMemory);
+    };
+    match command.try_get_matches_from(words) {
+        Ok(matches) => {
+            if !asks_serial(&matches) {
+                return Err(Refusal::BadLine);
+            }
+            Ok(Wish::Serial)
+        }
+        Err(e) => match e.kind() {
+            ErrorKind::DisplayHelp => Ok(Wish::Help(e)),
+            ErrorKind::OutOfMemory => Err(Refusal::OutOfMemory),
+            _ => Err(Refusal::BadLine),
+        },
+    }
+}
+
+/// Tells a fault, and answers the status.
+pub fn end_with<E: Sink>(fault: Fault, error: &mut E) -> u8
+    ensures status { result ≡ status_of fault }
+    ensures ends { IsStatus result }
+    ensures told { E.failures error.new ≡ E.failures error.old
+        → Appends (E.taken error.old) (E.taken error.new) (complaint fault) }
+{
+    let _ = write_all(error, complaint(fault).as_bytes());
+    status_of(fault)
+}
+
+/// Runs the engine `serial`, tells a fault, and answers the status.
+fn run_serial<S: Source, K: Sink, E: Sink>(
+    alloc: Global,
+    input: &mut S,
+    output: &mut K,
+    error: &mut E,
+) -> u8
+    ensures statuses { IsStatus result }
+    ensures written { result ≡ 0 → IfSome (S.left input.old) (λ bytes. HasText (serial_text bytes)
+        (λ text. Appends (K.taken output.old) (K.taken output.new) text)) }
+    ensures silent { result ≡ 0 → error.new ≡ error.old }
+    ensures refused { result ≡ 2 → IfSome (S.left input.old) (λ bytes. HasNoText (serial_text bytes)) }
+    ensures untouched { (result ≡ 2) ⊎ (result ≡ 4) → output.new ≡ output.old }
+    ensures failed { result ≡ 5 → (S.failures input.new ≡ S.failures input.old + 1) ⊎ (K.failures output.new ≡ K.failures output.old + 1) }
+    ensures told { result ≢ 0 → E.failures error.new ≡ E.failures error.old
+        → Tells result (E.taken error.old) (E.taken error.new) }
+{
+    match serial(alloc, input, output) {
+        Ok(()) => 0,
+        Err(fault) => end_with(fault, error),
+    }
+}
+
+/// Runs a command line, and answers its status: 0 where all went well, 2 where the line or the script is refused, 4 for
+/// want of memory, 5 where a device failed. The line on standard error may fail to be written; the status stays.
+pub fn command<W: AsStr, S: Source, K: Sink, E: Sink>(
+    alloc: Global,
+    words: &[W],
+    input: &mut S,
+    output: &mut K,
+    error: &mut E,
+) -> u8
+    ensures statuses { IsStatus result }
+    // Where all went well, nothing is said.
+    ensures silent { result ≡ 0 → error.new ≡ error.old }
+    // `calvin serial` that ends well wrote the text for the script.
+    ensures written { IsSerialLine (map W.text words.now) → result ≡ 0
+        → IfSome (S.left input.old) (λ bytes. HasText (serial_text bytes)
+        (λ text. Appends (K.taken output.old) (K.taken output.new) text)) }
+    // It ends with 2 only where the script is refused, and with 5 only where a device failed.
+    ensures refused { IsSerialLine (map W.text words.now) → result ≡ 2
+        → IfSome (S.left input.old) (λ bytes. HasNoText (serial_text bytes)) }
+    ensures failed { IsSerialLine (map W.text words.now) → result ≡ 5
+        → (S.failures input.new ≡ S.failures input.old + 1) ⊎ (K.failures output.new ≡ K.failures output.old + 1) }
+    // A fault of the script or of memory leaves the output as it was.
+    ensures untouched { IsSerialLine (map W.text words.now)
+        → (result ≡ 2) ⊎ (result ≡ 4) → output.new ≡ output.old }
+    // Standard error is told why, unless it fails itself.
+    ensures told { IsSerialLine (map W.text words.now) → result ≢ 0 → E.failures error.new ≡ E.failures error.old
+        → Tells result (E.taken error.old) (E.taken error.new) }
+{
+    match parse(alloc, words) {
+        Ok(Wish::Serial) => run_serial(alloc, input, output, error),
+        Ok(Wish::Help(help)) => print_help(alloc, &help, output, error),
+        Err(Refusal::BadLine) => {
+            let _ = write_all(error, b"calvin: bad line\n");
+            2
+        }
+        Err(Refusal::OutOfMemory) => end_with(Fault::OutOfMemory, error),
+    }
+}
+
+/// Writes clap's help, and answers the status.
+fn print_help<K: Sink, E: Sink>(alloc: Global, help: &Error, output: &mut K, error: &mut E) -> u8
+    ensures statuses { IsStatus result }
+    ensures silent { result ≡ 0 → error.new ≡ error.old }
+{
+    match help.to_string(alloc) {
+        Ok(text) => match write_all(output, text.as_bytes()) {
+            Ok(()) => 0,
+            Err(_) => end_with(Fault::WriteFailed, error),
+        },
+        Err(_) => end_with(Fault::OutOfMemory, error),
+    }
+}

@@ -1,0 +1,3 @@
+pub mod Complaints
+pub mod Devices
+pub mod Tallies

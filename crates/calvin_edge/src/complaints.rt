@@ -1,0 +1,27 @@
+//! What standard error is told of a refusal.
+ghost use Rattle.std.specs.Prelude.{◌≡◌};
+ghost use Rattle.calvin_types.specs.Faults.{number_of, name_of};
+ghost use Rattle.calvin_edge.specs.Complaints.{complaint, line_of};
+
+use calvin_types::Fault;
+
+/// The line that standard error gets for a fault: `calvin: `, its number, a space, its name and a
+/// line feed. It takes no memory, so that want of memory can be told too.
+pub fn complaint(fault: Fault) -> &'static str
+    ensures text { result.now ≡ complaint fault }
+    ensures number_and_name { result.now ≡ line_of (number_of fault) (name_of fault) }
+{
+    match fault {
+        Fault::OutOfMemory => "calvin: 1 OutOfMemory\n",
+        Fault::TooManyKeys => "calvin: 2 TooManyKeys\n",
+        Fault::Repeated => "calvin: 3 Repeated\n",
+        Fault::BadConfig => "calvin: 4 BadConfig\n",
+        Fault::TooLong => "calvin: 5 TooLong\n",
+        Fault::NotComplete => "calvin: 34 NotComplete\n",
+        Fault::BadJson => "calvin: 90 BadJson\n",
+        Fault::BadScript => "calvin: 91 BadScript\n",
+        Fault::ScriptTooLong => "calvin: 92 ScriptTooLong\n",
+        Fault::ReadFailed => "calvin: 95 ReadFailed\n",
+        Fault::WriteFailed => "calvin: 96 WriteFailed\n",
+    }
+}

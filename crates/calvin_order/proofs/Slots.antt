@@ -1,0 +1,49 @@
+-- Slots in their order, and a hash map of slots beside the finite map that its entries are.
+use Rattle.std.proofs.Common.{◌≡◌, ℕ, Bool, true, false, cond, ◌&&◌, List, Some, nat_eq, refl, ap, eqb-true, eq-eqb}
+use Rattle.std.proofs.lemmas.Bool.{false≢true}
+use Rattle.std.specs.Ordering.{nat_cmp}
+use Rattle.std.specs.Cmp.{IsTotalOrder, nat_cmp_total}
+use Rattle.std.specs.Map.{lookup}
+use Rattle.std.specs.FinMap.{IsAntisymmetric, get, insert, from_entries}
+use Rattle.std.proofs.lemmas.Cmp.{on_total, then_total}
+use Rattle.std.proofs.lemmas.Map.Lookups.{exact_pairs, exact_unsigned}
+use Rattle.calvin_types.specs.declared.place.Slot.{Slot}
+use Rattle.calvin_types.specs.Places.{slot_cmp}
+use Rattle.calvin_types.proofs.HashMaps as maps
+
+-- what `==` answers of two slots
+abbrev pub slot_eq : Slot → Slot → Bool
+slot_eq a b = nat_eq a.epoch b.epoch && nat_eq a.group b.group
+
+pub slot_total : IsTotalOrder slot_cmp
+slot_total = then_total (on_total (λ (s : Slot). s.epoch) nat_cmp_total) (on_total (λ (s : Slot). s.group) nat_cmp_total)
+
+pub slot_exact : IsAntisymmetric slot_cmp
+slot_exact a b h = ap (λ (p : ℕ × ℕ). record { epoch = p.0; group = p.1 }) (exact_pairs nat_cmp nat_cmp exact_unsigned exact_unsigned (a.epoch, a.group) (b.epoch, b.group) h)
+
+both : (a b : Bool) → (a && b) ≡ true → (a ≡ true) × (b ≡ true)
+both true b h = (refl, h)
+both false b h = absurd (false≢true h)
+
+pub slot_eq_exact : (a b : Slot) → slot_eq a b ≡ true → a ≡ b
+slot_eq_exact a b h =
+    let parts = both (nat_eq a.epoch b.epoch) (nat_eq a.group b.group) h in
+    let epoch = eqb-true a.epoch b.epoch parts.0 in
+    let group = eqb-true a.group b.group parts.1 in
+    λ i. record { epoch = epoch i; group = group i }
+
+pub slot_eq_self : (a : Slot) → slot_eq a a ≡ true
+slot_eq_self a = λ i. eq-eqb a.epoch a.epoch refl i && eq-eqb a.group a.group refl i
+
+module _ {X : Type 0} where
+  -- what the finite map has at a slot
+  pub got : (es : List (Slot × X)) (slot : Slot) → get (from_entries {R = slot_cmp} es) slot ≡ lookup (slot_eq slot) es
+  got es slot = maps.get-entries slot_eq slot_cmp slot_total slot_exact slot_eq_exact slot_eq_self es slot
+
+  -- entries in which each slot finds the same make the same map
+  pub same : (es fs : List (Slot × X)) → ((q : Slot) → lookup (slot_eq q) fs ≡ lookup (slot_eq q) es) → from_entries {R = slot_cmp} fs ≡ from_entries es
+  same es fs h = maps.same_entries slot_eq slot_cmp slot_total slot_exact slot_eq_exact slot_eq_self es fs h
+
+  -- entries that differ at one slot make maps that differ there
+  pub put : (es fs : List (Slot × X)) (slot : Slot) (v : X) → ((q : Slot) → lookup (slot_eq q) fs ≡ cond (slot_eq slot q) (Some v) (lookup (slot_eq q) es)) → from_entries {R = slot_cmp} fs ≡ insert (from_entries es) slot v
+  put es fs slot v h = maps.one_put slot_eq slot_cmp slot_total slot_exact slot_eq_exact slot_eq_self es fs slot v h

@@ -1,0 +1,76 @@
+-- What a merge holds.
+--     Batches Args      the batches that are held, by their slots
+--     Holding Args      these, and how many more are sure to find room
+--     Merging Args      the groups, the epoch that is taken next, the batches held, and the memory reserved
+--     batch_at held slot      the batch held for a slot, or the empty one
+--     HoldsAll held e parts      each group below parts has a batch held for epoch e
+--     held_by m      the assignment that m holds
+--     IsComplete m      the next epoch can be taken: each group's batch is held
+--     IsReady m      what is held for the next epoch fits the memory reserved
+--     with_batch slot batch m      m with one more batch, unless the slot has one
+--     EpochsFit held      no batch is held for an epoch past 2^64 - 1
+--     IsMerge parts held given      what is true of every merge: 1 to 16 groups, no epoch past the last is held, no request is kept back
+use Rattle.std.specs.Prelude.{◌≡◌, ℕ, ◌-◌, ◌^◌, ◌<◌, ◌≤◌, [], length, if◌then◌else◌, IsSome}
+use Rattle.std.specs.Option.{unwrap_or}
+use Rattle.std.specs.FinMap.{FinMap, get, contains_key, insert}
+use Rattle.calvin_types.specs.declared.place.Slot.{Slot}
+use Rattle.calvin_types.specs.Orders.{Order}
+use Rattle.calvin_types.specs.Places.{slot_cmp}
+use Rattle.calvin_order.specs.Merged.{Batch, Assignment, joined}
+
+-- batches by their slots
+abbrev pub Batches : Type 0 → Type 0
+Batches Args = FinMap slot_cmp (Batch Args)
+
+-- batches, and how many more are sure to find room
+pub record Holding (Args : Type 0) : Type 0 where
+  pub batches : Batches Args
+  pub room : ℕ
+
+-- the merge of one node
+pub record Merging (Args : Type 0) : Type 0 where
+  -- how many groups there are, numbered from 0
+  pub partitions : ℕ
+  -- the epoch that is taken next: 2^64 after the last
+  pub next : ℕ
+  pub held : Batches Args
+  -- how many batches can be held without growing
+  pub room : ℕ
+  -- how many requests can be given without growing
+  pub ready : ℕ
+
+module _ {Args : Type 0} where
+  -- the batch held for a slot, or the empty one
+  abbrev pub batch_at : Batches Args → Assignment Args
+  batch_at held slot = unwrap_or (get held slot) []
+
+  -- each group's batch of an epoch is held
+  abbrev pub HoldsAll : Batches Args → ℕ → ℕ → Type 0
+  HoldsAll held e parts = (g : ℕ) → g < parts → IsSome (get held (record { epoch = e; group = g }))
+
+  -- the batch that m holds for each slot
+  abbrev pub held_by : Merging Args → Assignment Args
+  held_by m = batch_at m.held
+
+  -- each group's batch of the next epoch is held
+  abbrev pub IsComplete : Merging Args → Type 0
+  IsComplete m = HoldsAll m.held m.next m.partitions
+
+  -- the requests held for the next epoch can be given without growing
+  abbrev pub IsReady : Merging Args → Type 0
+  IsReady m = length (joined (held_by m) m.next m.partitions) ≤ m.ready
+
+  -- with a batch for a slot, unless one is held for it already
+  abbrev pub with_batch : Slot → Batch Args → Merging Args → Merging Args
+  with_batch slot batch m = if contains_key m.held slot then m else record m { held = insert m.held slot batch; room = m.room - 1 }
+
+  -- no batch is held for an epoch past the last
+  abbrev pub EpochsFit : Batches Args → Type 0
+  EpochsFit held = (slot : Slot) → IsSome (get held slot) → slot.epoch < 2 ^ 64
+
+  -- 1 to 16 groups, no batch of an epoch past the last, and no request kept back
+  pub record IsMerge (parts : ℕ) (held : Batches Args) (given : Order Args) : Type 0 where
+    pub some : 0 < parts
+    pub few : parts ≤ 16
+    pub in_range : EpochsFit held
+    pub none_kept : given ≡ []

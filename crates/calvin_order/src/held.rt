@@ -1,0 +1,148 @@
+//! Batches by their slots.
+ghost use Rattle.std.specs.Prelude.{◌≡◌, ◌+◌, ◌*◌, ◌-◌, ◌<◌, ◌≤◌, ◌↔◌, ◌++◌, [], length, max, is_none, IfOk, IsOk, IsNone, IsTrue, OnOk, OnErr, IsOkUnless, vec_len, vec_capacity, if◌then◌else◌};
+ghost use Rattle.std.specs.Option.{option_copied};
+ghost use Rattle.std.specs.FinMap as map;
+ghost use Rattle.calvin_order.specs.Merged.{joined, numbered, merged};
+ghost use Rattle.calvin_order.specs.Merging.{batch_at, HoldsAll};
+
+use calvin_types::{Batch, Fault, Place, Slot, Txn};
+use std::alloc::Global;
+use std::collections::HashMap;
+use std::marker::Model;
+
+/// At most one batch for each slot. Room for some more can be reserved.
+#[derive(Drop)]
+pub struct Held<Args> {
+    batches: HashMap<Slot, Batch<Args>>,
+    room: usize,
+}
+
+impl<Args> Model for Held<Args> {
+    ghost use Rattle.std.specs.Prelude.{◌≤◌};
+    ghost use Rattle.std.specs.FinMap.{from_entries};
+    ghost use Rattle.std.specs.HashMap.{spare};
+    ghost use Rattle.calvin_order.specs.Merging.{Holding};
+    ghost use Rattle.calvin_order.specs.Codes.{coded_holding};
+
+    ghost Value = { Holding Args };
+
+    ghost coded = { coded_holding Args.code };
+
+    ghost view = { λ h. record { batches = from_entries h.batches.entries; room = h.room } };
+
+    ghost invariant = { λ h. h.room ≤ spare h.batches };
+}
+
+impl<Args: Copy> Held<Args> {
+    pub fn new(alloc: Global) -> Held<Args>
+        ensures { result ≡ record { batches = map.empty; room = 0 } }
+    {
+        Held {
+            batches: HashMap::new(alloc),
+            room: 0,
+        }
+    }
+
+    pub fn get(&self, slot: Slot) -> Option<&Batch<Args>>
+        ensures { option_copied result ≡ map.get self.now.batches slot }
+    {
+        self.batches.get(&slot)
+    }
+
+    /// One more batch, whose slot has none.
+    pub fn insert(&mut self, slot: Slot, batch: Batch<Args>) -> Result<(), Fault>
+        ensures held { OnOk result (self.new ≡ record { batches = map.insert self.old.batches slot batch; room = self.old.room - 1 }) }
+        ensures unchanged { OnErr result (self.new ≡ self.old) }
+        ensures err { IsOkUnless result Fault.OutOfMemory }
+        ensures succeeds { 0 < self.old.room → IsOk result }
+    {
+        self.batches.insert(slot, batch)?;
+        self.room = self.room.saturating_sub(1);
+        Ok(())
+    }
+
+    /// Room for one more batch at least.
+    pub fn reserve(&mut self) -> Result<(), Fault>
+        ensures reserved { OnOk result (self.new ≡ record self.old { room = max 1 self.old.room }) }
+        ensures unchanged { OnErr result (self.new ≡ self.old) }
+        ensures err { IsOkUnless result Fault.OutOfMemory }
+        ensures succeeds { 0 < self.old.room → IsOk result }
+    {
+        if self.room == 0 {
+            self.batches.reserve(1)?;
+            self.room = 1;
+        }
+        Ok(())
+    }
+
+    /// Whether each group has a batch for an epoch.
+    pub fn has_all(&self, epoch: u64, groups: u8) -> bool
+        ensures { IsTrue result ↔ HoldsAll self.now.batches epoch groups }
+    {
+        for group in 0..groups {
+            if self.get(Slot { epoch, group }).is_none() {
+                return false;
+            }
+        }
+        true
+    }
+
+    /// The requests of the batch for a slot: none where there is no batch.
+    fn requests(&self, slot: Slot) -> &[Txn<Args>]
+        ensures { result.now ≡ batch_at self.now.batches slot }
+    {
+        match self.get(slot) {
+            Some(batch) => batch.as_slice(),
+            None => &[],
+        }
+    }
+
+    /// How many requests the batch for a slot has.
+    fn len_at(&self, slot: Slot) -> usize
+        ensures len { result ≡ length (batch_at self.now.batches slot) }
+        ensures at_most { result ≤ 256 }
+    {
+        match self.get(slot) {
+            Some(batch) => batch.len(),
+            None => 0,
+        }
+    }
+
+    /// How many requests the groups' batches for an epoch have.
+    pub fn count(&self, epoch: u64, groups: u8) -> usize
+        ensures count { result ≡ length (joined (batch_at self.now.batches) epoch groups) }
+        ensures at_most { result ≤ 256 * groups }
+    {
+        let mut count = 0;
+        for group in 0..groups {
+            count += self.len_at(Slot { epoch, group });
+        }
+        count
+    }
+
+    /// Appends the groups' requests for an epoch, each with its place.
+    pub fn append_all(&self, epoch: u64, groups: u8, out: &mut Vec<(Place, Txn<Args>)>)
+        requires empty { out.old.items ≡ [] }
+        requires few { length (joined (batch_at self.now.batches) epoch groups) ≤ 4096 }
+        requires room { length (joined (batch_at self.now.batches) epoch groups) ≤ vec_capacity out.old }
+        ensures { out.new.items ≡ merged groups (batch_at self.now.batches) epoch }
+    {
+        for group in 0..groups {
+            append(epoch, self.requests(Slot { epoch, group }), out);
+        }
+    }
+}
+
+/// Appends requests, each with its place: the first has the number of requests that are there.
+fn append<Args: Copy>(epoch: u64, txns: &[Txn<Args>], out: &mut Vec<(Place, Txn<Args>)>)
+    requires few { vec_len out.old + length txns.now ≤ 4096 }
+    requires room { vec_len out.old + length txns.now ≤ vec_capacity out.old }
+    ensures appended { out.new.items ≡ out.old.items ++ numbered epoch (vec_len out.old) txns.now }
+    ensures len { vec_len out.new ≡ vec_len out.old + length txns.now }
+    ensures capacity { vec_capacity out.old ≤ vec_capacity out.new }
+{
+    for txn in txns {
+        let n = out.len() as u32;
+        out.push((Place { epoch, n }, *txn)).unwrap();
+    }
+}

@@ -1,0 +1,10 @@
+//! The merge of one node: it holds a batch for each slot and gives the epochs' requests in one order, epoch after
+//! epoch, and in an epoch whole batches by ascending group.
+#![tactic(auto)]
+
+mod held;
+mod merge;
+#[cfg(test)]
+mod tests;
+
+pub use merge::{Merge, orders_rise};

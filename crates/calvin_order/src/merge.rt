@@ -1,0 +1,145 @@
+//! The merge of one node.
+ghost use Rattle.std.specs.Prelude.{◌≡◌, ◌^◌, ◌<◌, ◌≤◌, ◌↔◌, ◌⊎◌, suc, max, is_none, IfOk, IfErr, IsOk, IsNone, IsErrOf, OnOk, OnErr, IsOkUnless, MatchOption};
+ghost use Rattle.std.specs.Option.{option_copied};
+ghost use Rattle.std.specs.FinMap as map;
+ghost use Rattle.calvin_types.specs.Orders.{Rises};
+ghost use Rattle.calvin_order.specs.Merged.{merged, OrdersRise};
+ghost use Rattle.calvin_order.specs.Merging.{held_by, with_batch, IsComplete, IsReady};
+
+use crate::held::Held;
+use calvin_types::{Batch, Config, Fault, Place, Slot, Txn};
+use std::alloc::Global;
+use std::marker::Model;
+use std::mem;
+
+/// At most one batch for each slot, and the epoch that is taken next (Thomson et al. 2012, section 3.2: each node joins
+/// the batches of all sequencers, in one order).
+#[derive(Drop)]
+pub struct Merge<Args> {
+    alloc: Global,
+    partitions: u8,
+    next: Option<u64>,
+    held: Held<Args>,
+    ready: Vec<(Place, Txn<Args>)>,
+}
+
+impl<Args> Model for Merge<Args> {
+    ghost use Rattle.std.specs.Prelude.{◌^◌, vec_capacity};
+    ghost use Rattle.std.specs.Option.{unwrap_or};
+    ghost use Rattle.calvin_order.specs.Merging.{Merging, IsMerge};
+    ghost use Rattle.calvin_order.specs.Codes.{coded_merging};
+
+    ghost Value = { Merging Args };
+
+    ghost coded = { coded_merging Args.code };
+
+    ghost view = { λ m. record { partitions = m.partitions; next = unwrap_or m.next (2 ^ 64); held = m.held.batches; room = m.held.room; ready = vec_capacity m.ready } };
+
+    ghost invariant = { λ m. IsMerge m.partitions m.held.batches m.ready.items };
+}
+
+impl<Args: Copy> Merge<Args> {
+    /// A merge of as many groups as there are partitions: nothing is held, and epoch 0 is next.
+    pub fn new(alloc: Global, config: &Config) -> Merge<Args>
+        ensures { result ≡ record { partitions = config.now.partitions; next = 0; held = map.empty; room = 0; ready = 0 } }
+    {
+        Merge {
+            alloc,
+            partitions: config.partitions,
+            next: Some(0),
+            held: Held::new(alloc),
+            ready: Vec::new(alloc),
+        }
+    }
+
+    /// Holds the batch that was decided for a slot, of any epoch and group, and answers true. Where the slot has a
+    /// batch already nothing changes, and the answer is false. Refused with `OutOfMemory` where the slot has none and a
+    /// growth was refused: the batch is given up.
+    pub fn hold(&mut self, slot: Slot, batch: Batch<Args>) -> Result<bool, Fault>
+        ensures new { IfOk result (λ new. new ≡ is_none (map.get self.old.held slot)) }
+        ensures held { OnOk result (self.new ≡ with_batch slot batch self.old) }
+        ensures unchanged { OnErr result (self.new ≡ self.old) }
+        ensures err { IsOkUnless result Fault.OutOfMemory }
+        ensures absent { OnErr result (IsNone (map.get self.old.held slot)) }
+        ensures succeeds { 0 < self.old.room → IsOk result }
+    {
+        if self.held.get(slot).is_some() {
+            return Ok(false);
+        }
+        self.held.insert(slot, batch)?;
+        Ok(true)
+    }
+
+    /// Makes room, so that `hold`, made next, isn't refused. Refused with `OutOfMemory` where there is no room and a
+    /// growth was refused.
+    pub fn reserve_hold(&mut self) -> Result<(), Fault>
+        ensures reserved { OnOk result (self.new ≡ record self.old { room = max 1 self.old.room }) }
+        ensures unchanged { OnErr result (self.new ≡ self.old) }
+        ensures err { IsOkUnless result Fault.OutOfMemory }
+        ensures succeeds { 0 < self.old.room → IsOk result }
+    {
+        self.held.reserve()?;
+        Ok(())
+    }
+
+    /// The batch that is held for a slot.
+    pub fn held(&self, slot: Slot) -> Option<&Batch<Args>>
+        ensures { option_copied result ≡ map.get self.now.held slot }
+    {
+        self.held.get(slot)
+    }
+
+    /// The epoch that is taken next. There is none once epoch 2^64 - 1 was taken.
+    pub fn next(&self) -> Option<u64>
+        ensures { MatchOption result (self.now.next ≡ 2 ^ 64) (λ epoch. epoch ≡ self.now.next) }
+    {
+        self.next
+    }
+
+    /// The requests of the next epoch: whole batches by ascending group, the n-th request at the place (epoch, n).
+    /// Refused with `NotComplete` where a group's batch isn't held for that epoch, as always once no epoch is left; else
+    /// with `OutOfMemory` where a growth was refused. Batches stay held.
+    pub fn take_epoch(&mut self) -> Result<Vec<(Place, Txn<Args>)>, Fault>
+        ensures merged { IfOk result (λ v. v.items ≡ merged self.old.partitions (held_by self.old) self.old.next) }
+        ensures rising { IfOk result (λ v. Rises v.items) }
+        ensures next { OnOk result (self.new ≡ record self.old { next = suc self.old.next; ready = 0 }) }
+        ensures complete { OnOk result (IsComplete self.old) }
+        ensures not_complete { IsErrOf result Fault.NotComplete ↔ ¬ IsComplete self.old }
+        ensures faults { IfErr result (λ fault. (fault ≡ Fault.NotComplete) ⊎ (fault ≡ Fault.OutOfMemory)) }
+        ensures unchanged { OnErr result (self.new ≡ self.old) }
+        ensures reserved { IsReady self.old → IsOkUnless result Fault.NotComplete }
+    {
+        let Some(epoch) = self.next else {
+            return Err(Fault::NotComplete);
+        };
+        if !self.held.has_all(epoch, self.partitions) {
+            return Err(Fault::NotComplete);
+        }
+        self.ready.reserve(self.held.count(epoch, self.partitions))?;
+        let mut requests = mem::replace(&mut self.ready, Vec::new(self.alloc));
+        self.held.append_all(epoch, self.partitions, &mut requests);
+        self.next = epoch.checked_add(1);
+        Ok(requests)
+    }
+
+    /// Makes room for what is held for the next epoch, so that `take_epoch`, made next, isn't refused with
+    /// `OutOfMemory`. Refused with that where there is no room and a growth was refused.
+    pub fn reserve_take_epoch(&mut self) -> Result<(), Fault>
+        ensures ready { OnOk result (IsReady self.new) }
+        ensures reserved { OnOk result (self.new ≡ record self.old { ready = self.new.ready }) }
+        ensures kept { self.old.ready ≤ self.new.ready }
+        ensures unchanged { OnErr result (self.new ≡ self.old) }
+        ensures err { IsOkUnless result Fault.OutOfMemory }
+        ensures succeeds { IsReady self.old → IsOk result }
+    {
+        if let Some(epoch) = self.next {
+            self.ready.reserve(self.held.count(epoch, self.partitions))?;
+        }
+        Ok(())
+    }
+}
+
+/// The places of a merged order rise: what any node gives, epoch after epoch, is one order of places.
+pub fn orders_rise<Args>()
+    ensures { OrdersRise Args }
+{}

@@ -1,0 +1,4 @@
+pub mod Lists
+pub mod Json
+pub mod KeySets
+pub mod Names

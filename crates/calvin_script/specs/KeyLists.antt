@@ -1,0 +1,29 @@
+-- Keys, and sets of keys, as they are written.
+--     key d      the key `[table,id]`
+--     key_set form d      the set of a list of at most 16 keys, none twice, each written in a form
+use Rattle.std.specs.Prelude.{◌^◌, ◌&&◌, ◌==◌, List, [], length, Bool, nat_le, nat_lt, Option, Some, option_and_then, is_none}
+use Rattle.serde_json.specs.Data.{Data}
+use Rattle.serde_json.specs.Find.{at}
+use Rattle.calvin_types.specs.declared.key.Key.{Key}
+use Rattle.calvin_types.specs.Keys.{insert_key, insert_all}
+use Rattle.calvin_script.specs.Spelling.{◌>>=◌, only_if, below, list}
+
+-- `[table,id]`
+unfoldable pub key : Data → Option Key
+key d = only_if (is_none (at 2 d)) (do
+  table ← option_and_then (below (2 ^ 8)) (at 0 d)
+  id ← option_and_then (below (2 ^ 64)) (at 1 d)
+  Some (record { table = table; id = id }))
+
+-- the set of at most 16 keys, none twice: it has as many keys as are written
+abbrev pub set_of : List Key → Option (List Key)
+set_of ks = only_if (nat_le (length ks) 16 && (length (insert_all ks []) == length ks)) (Some (insert_all ks []))
+
+unfoldable pub key_set : (Data → Option Key) → Data → Option (List Key)
+key_set form d = option_and_then set_of (list form d)
+
+-- ---- key by key
+
+-- whether a set takes a key more: a new one, for which there is room
+abbrev pub takes : Key → List Key → Bool
+takes k all = nat_lt (length all) (length (insert_key k all)) && nat_le (length (insert_key k all)) 16

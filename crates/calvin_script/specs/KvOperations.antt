@@ -1,0 +1,48 @@
+-- The operations of the application Kv as they are written.
+--     kv_operation d      `["put",k,v]`, `["get",[k, ..]]` or `["add",k,d]`
+--     kv_grammar      Kv's name, its operations, and the sets of each on the empty view
+use Rattle.std.specs.Prelude.{◌^◌, if◌then◌else◌, Option, Some, option_and_then, is_none, codes, bytes_eq}
+use Rattle.std.specs.FinMap as finmap
+use Rattle.serde_json.specs.Data.{Data}
+use Rattle.serde_json.specs.Find.{at, as_str}
+use Rattle.calvin_types.specs.declared.key.Key.{Key}
+use Rattle.calvin_app.specs.declared.kv.KvRequest.{KvRequest}
+use Rattle.calvin_app.specs.declared.kv.KvRequest.TheVariants.{Put, Get, Add}
+use Rattle.calvin_app.specs.Kv.{kv}
+use Rattle.calvin_script.specs.Spelling.{◌>>=◌, only_if, below}
+use Rattle.calvin_script.specs.KeyLists.{key_set}
+use Rattle.calvin_script.specs.Grammar.{Grammar}
+
+-- a key of table 0, written as its number there
+abbrev pub row_key : Data → Option Key
+row_key d = do
+  id ← below (2 ^ 64) d
+  Some (record { table = 0; id = id })
+
+-- `["put",k,v]`
+unfoldable pub put : Data → Option KvRequest
+put d = only_if (is_none (at 3 d)) (do
+  id ← option_and_then (below (2 ^ 64)) (at 1 d)
+  value ← option_and_then (below (2 ^ 64)) (at 2 d)
+  Some (Put id value))
+
+-- `["get",[k, ..]]`, at most 16 keys, none twice
+unfoldable pub get_of : Data → Option KvRequest
+get_of d = only_if (is_none (at 2 d)) (do
+  keys ← option_and_then (key_set row_key) (at 1 d)
+  Some (Get keys))
+
+-- `["add",k,d]`
+unfoldable pub add : Data → Option KvRequest
+add d = only_if (is_none (at 3 d)) (do
+  id ← option_and_then (below (2 ^ 64)) (at 1 d)
+  amount ← option_and_then (below (2 ^ 64)) (at 2 d)
+  Some (Add id amount))
+
+unfoldable pub kv_operation : Data → Option KvRequest
+kv_operation d = do
+  name ← option_and_then as_str (at 0 d)
+  if bytes_eq name (codes "put") then put d else (if bytes_eq name (codes "get") then get_of d else only_if (bytes_eq name (codes "add")) (add d))
+
+abbrev pub kv_grammar : Grammar KvRequest
+kv_grammar = record { app_name = codes "kv"; operation = kv_operation; first_needs = λ a. kv.needs a finmap.empty }

@@ -1,0 +1,47 @@
+-- Requests as they are written.
+--     txn grammar d      `{"client":C,"number":N,"op":OP}`, with optional `"attempt":A` and `"reads":[KEY, ..],"writes":[KEY, ..]`
+use Rattle.std.specs.Prelude.{ℕ, ◌^◌, ◌&&◌, ◌==◌, List, [], ◌∷◌, length, Bool, not, Option, Some, None, option_and_then, codes}
+use Rattle.serde_json.specs.Data.{Data}
+use Rattle.serde_json.specs.Find.{get}
+use Rattle.calvin_types.specs.declared.key_set.Sets.{Sets}
+use Rattle.calvin_types.specs.declared.place.RequestId.{RequestId}
+use Rattle.calvin_types.specs.declared.txn.Txn.{Txn}
+use Rattle.calvin_script.specs.Spelling.{◌>>=◌, only_if, has_only, below, between, optional}
+use Rattle.calvin_script.specs.KeyLists.{key, key_set}
+use Rattle.calvin_script.specs.Grammar.{Grammar}
+
+-- the client, and the client's own number for the request
+unfoldable pub id_of : Data → Option RequestId
+id_of d = do
+  client ← option_and_then (below (2 ^ 32)) (get (codes "client") d)
+  own_number ← option_and_then (below (2 ^ 32)) (get (codes "number") d)
+  Some (record { client = client; number = own_number })
+
+-- the sets that are declared, both or neither; where none are, the first ones, those on the empty view
+unfoldable pub sets_or : Sets → Option Data → Option Data → Option Sets
+sets_or first None None = Some first
+sets_or first None (Some writes) = None
+sets_or first (Some reads) None = None
+sets_or first (Some reads) (Some writes) = do
+  read_keys ← key_set key reads
+  written_keys ← key_set key writes
+  Some (record { reads = read_keys; writes = written_keys })
+
+-- a request reads or writes something
+abbrev pub has_key : Sets → Bool
+has_key sets = not ((length sets.reads == 0) && (length sets.writes == 0))
+
+abbrev pub txn_names : List (List ℕ)
+txn_names = codes "client" ∷ codes "number" ∷ codes "op" ∷ codes "attempt" ∷ codes "reads" ∷ codes "writes" ∷ []
+
+-- a request, with the members that may be left out
+unfoldable pub txn_with : {Args : Type 0} → Grammar Args → Data → Option Data → Option Data → Option Data → Option (Txn Args)
+txn_with grammar d attempt reads writes = do
+  id ← id_of d
+  args ← option_and_then grammar.operation (get (codes "op") d)
+  attempt_number ← optional 1 (between 1 8) attempt
+  sets ← sets_or (grammar.first_needs args) reads writes
+  only_if (has_key sets) (Some (record { id = id; attempt = attempt_number; args = args; sets = sets }))
+
+unfoldable pub txn : {Args : Type 0} → Grammar Args → Data → Option (Txn Args)
+txn grammar d = only_if (has_only txn_names d) (txn_with grammar d (get (codes "attempt") d) (get (codes "reads") d) (get (codes "writes") d))

@@ -1,0 +1,66 @@
+-- Scripts as they are written, and what they say.
+--     Contents Args      how many partitions there are, and the batches that each epoch lists
+--     batch_at contents slot      the batch of the slot's group in the slot's epoch; empty where none is listed
+--     script grammar d      `{"partitions":P,"app":NAME,"epochs":[[{"group":G,"txns":[TXN, ..]}, ..], ..]}`
+use Rattle.std.specs.Prelude.{ℕ, ◌&&◌, ◌^◌, List, [], ◌∷◌, length, map, Bool, true, not, nat_lt, nat_le, nat_eq, if◌then◌else◌, Option, Some, option_and_then, codes, bytes_eq, get_or}
+use Rattle.std.specs.List.{list_any, list_all}
+use Rattle.serde_json.specs.Data.{Data}
+use Rattle.serde_json.specs.Find.{get, as_str}
+use Rattle.calvin_types.specs.declared.place.Slot.{Slot}
+use Rattle.calvin_types.specs.declared.txn.Txn.{Txn}
+use Rattle.calvin_script.specs.declared.contents.GroupBatch.{GroupBatch}
+use Rattle.calvin_script.specs.declared.contents.Epoch.{Epoch}
+use Rattle.calvin_script.specs.declared.contents.Script.{Script}
+use Rattle.calvin_script.specs.Spelling.{◌>>=◌, only_if, has_only, below, between, list}
+use Rattle.calvin_script.specs.Grammar.{Grammar}
+use Rattle.calvin_script.specs.Requests.{txn}
+
+-- a group, and the batch that is listed for it
+pub record Listed (Args : Type 0) : Type 0 where
+  pub group : ℕ
+  pub txns : List (Txn Args)
+
+pub record Contents (Args : Type 0) : Type 0 where
+  pub partitions : ℕ
+  pub epochs : List (List (Listed Args))
+
+module _ {Args : Type 0} where
+  -- the batch that is listed for a group
+  abbrev pub batch_of : ℕ → List (Listed Args) → List (Txn Args)
+  batch_of group [] = []
+  batch_of group (b ∷ bs) = if nat_eq b.group group then b.txns else batch_of group bs
+
+  abbrev pub batch_at : Contents Args → Slot → List (Txn Args)
+  batch_at contents slot = batch_of slot.group (get_or contents.epochs slot.epoch [])
+
+  -- ---- values without where they lie in memory
+
+  abbrev pub listed : GroupBatch Args → Listed Args
+  listed b = record { group = b.group; txns = b.batch }
+
+  abbrev pub all_listed : Epoch Args → List (Listed Args)
+  all_listed e = map listed e.batches.items
+
+  abbrev pub contents : Script Args → Contents Args
+  contents s = record { partitions = s.partitions; epochs = map all_listed s.epochs.items }
+
+  -- ---- what is written
+
+  -- `{"group":G,"txns":[TXN, ..]}`, at most 256 requests
+  unfoldable pub batch : Grammar Args → Data → Option (Listed Args)
+  batch grammar d = only_if (has_only (codes "group" ∷ codes "txns" ∷ []) d) (do
+    group ← option_and_then (below (2 ^ 8)) (get (codes "group") d)
+    txns ← option_and_then (list (txn grammar)) (get (codes "txns") d)
+    only_if (nat_le (length txns) 256) (Some (record { group = group; txns = txns })))
+
+  -- each group is one of the partitions, and none is listed twice
+  abbrev pub groups_fit : ℕ → List (Listed Args) → Bool
+  groups_fit partitions [] = true
+  groups_fit partitions (b ∷ bs) = nat_lt b.group partitions && not (list_any (λ c. nat_eq c.group b.group) bs) && groups_fit partitions bs
+
+  unfoldable pub script : Grammar Args → Data → Option (Contents Args)
+  script grammar d = only_if (has_only (codes "partitions" ∷ codes "app" ∷ codes "epochs" ∷ []) d) (do
+    partitions ← option_and_then (between 1 16) (get (codes "partitions") d)
+    app ← option_and_then as_str (get (codes "app") d)
+    epochs ← option_and_then (list (list (batch grammar))) (get (codes "epochs") d)
+    only_if (bytes_eq app grammar.app_name && list_all (groups_fit partitions) epochs) (Some (record { partitions = partitions; epochs = epochs })))

@@ -1,0 +1,66 @@
+//! Keys, and sets of keys.
+ghost use Rattle.std.specs.Prelude.{◌≡◌, ◌≤◌, length, IsTrue, Option};
+ghost use Rattle.serde_json.specs.Data.{Data};
+ghost use Rattle.serde_json.specs.View.{view};
+ghost use Rattle.calvin_types.specs.declared.key.Key.{Key};
+ghost use Rattle.calvin_types.specs.Keys.{insert_key};
+ghost use Rattle.calvin_script.specs.KeyLists.{key, key_set, takes};
+
+use crate::fields::{u8_of, u64_of};
+use calvin_types::{Key, KeySet};
+use serde_json::Value;
+
+/// A way to write keys.
+pub trait KeyForm {
+    ghost form: { Data → Option Key };
+
+    /// The key that a piece of JSON spells.
+    fn key_of(value: &Value) -> Option<Key>
+        ensures { result ≡ form (view value.now) };
+}
+
+/// A key with its table: `[table,id]`.
+pub struct WholeKey;
+
+impl KeyForm for WholeKey {
+    ghost use Rattle.calvin_script.specs.KeyLists.{key};
+
+    ghost form = { key };
+
+    #[tactic(auto, unfolding(crate::specs::KeyLists::key))]
+    fn key_of(value: &Value) -> Option<Key> {
+        if value.get(2).is_some() {
+            return None;
+        }
+        let table = u8_of(value.get(0)?)?;
+        let id = u64_of(value.get(1)?)?;
+        Some(Key { table, id })
+    }
+}
+
+/// Adds a key, and says whether it is a new one for which there was room.
+fn is_added(keys: &mut KeySet, key: Key) -> bool
+    ensures whether { result ≡ takes key keys.old }
+    ensures added { IsTrue result → keys.new ≡ insert_key key keys.old }
+    ensures at_most { length keys.new ≤ 16 }
+{
+    let size = keys.len();
+    let added = keys.insert(key).is_ok();
+    added && size < keys.len()
+}
+
+/// The set that a list of at most 16 keys spells, in any order and none twice.
+#[tactic(auto, unfolding(crate::specs::KeyLists::key_set), using(crate::proofs::KeySets::items_more, crate::proofs::KeySets::items_refused, crate::proofs::KeySets::grown_end))]
+pub fn key_set_of<F: KeyForm>(value: &Value) -> Option<KeySet>
+    ensures { result ≡ key_set F.form (view value.now) }
+{
+    let items = value.as_array()?;
+    let mut keys = KeySet::new();
+    for item in items {
+        let key = F::key_of(item)?;
+        if !is_added(&mut keys, key) {
+            return None;
+        }
+    }
+    Some(keys)
+}

@@ -1,0 +1,21 @@
+//! The scripts that the bytes of JSON spell: epochs of batches of requests, for any application that says how its own
+//! operations are written. It is the only crate that reads JSON.
+#![tactic(auto)]
+
+mod contents;
+mod fields;
+mod key_list;
+mod kv;
+mod list;
+mod operation;
+mod reading;
+mod request;
+mod script;
+
+pub use contents::{Epoch, GroupBatch, Script};
+pub use key_list::{KeyForm, WholeKey, key_set_of};
+pub use operation::Operation;
+pub use reading::script_from;
+
+#[cfg(test)]
+mod tests;

@@ -1,0 +1,69 @@
+//! Lists of what can be spelled.
+ghost use Rattle.std.specs.Prelude.{◌≡◌, Option, map};
+ghost use Rattle.serde_json.specs.Data.{Data};
+ghost use Rattle.serde_json.specs.View.{view};
+ghost use Rattle.calvin_script.specs.Spelling.{list};
+ghost use Rattle.calvin_script.specs.Gives.{Gives};
+
+use serde_json::Value;
+use std::alloc::{AllocError, AllocFailed, Global};
+
+/// Why nothing was read.
+#[derive(Clone, Copy, Debug, PartialEq, Eq)]
+pub(crate) enum ScriptError {
+    OutOfMemory,
+    /// The JSON spells nothing.
+    BadScript,
+}
+
+impl From<AllocError> for ScriptError {
+    ghost use Rattle.calvin_script.specs.declared.list.ScriptError.TheVariants.{OutOfMemory};
+
+    ghost from_gives = { λ _ e. e ≡ OutOfMemory };
+
+    fn from(_refused: AllocError) -> ScriptError {
+        ScriptError::OutOfMemory
+    }
+}
+
+impl<T: Drop> From<AllocFailed<T>> for ScriptError {
+    ghost use Rattle.calvin_script.specs.declared.list.ScriptError.TheVariants.{OutOfMemory};
+
+    ghost from_gives = { λ _ e. e ≡ OutOfMemory };
+
+    fn from(_refused: AllocFailed<T>) -> ScriptError {
+        ScriptError::OutOfMemory
+    }
+}
+
+/// What JSON can spell.
+pub(crate) trait Spelled: Drop {
+    /// What a value is, apart from where it lies in memory.
+    ghost Meaning: { Type 0 };
+
+    ghost meaning: { Self → Meaning };
+
+    /// What a piece of JSON spells.
+    ghost spelled: { Data → Option Meaning };
+
+    fn from_json(alloc: Global, value: &Value) -> Result<Self, ScriptError>
+        ensures { Gives meaning result (spelled (view value.now)) };
+}
+
+/// The list that a piece of JSON spells.
+pub(crate) fn list_of<T: Spelled>(alloc: Global, value: &Value) -> Result<Vec<T>, ScriptError>
+    ensures { Gives (λ v. map T.meaning v.items) result (list T.spelled (view value.now)) }
+{
+    let items = value.as_array().ok_or(ScriptError::BadScript)?;
+    let mut found = Vec::with_capacity(alloc, items.len().min(MOST_AT_ONCE))?;
+    for item in items {
+        match T::from_json(alloc, item) {
+            Ok(one) => found.push(one)?,
+            Err(error) => return Err(error),
+        }
+    }
+    Ok(found)
+}
+
+/// Room is taken at once for at most so many items: as many as a batch may have.
+const MOST_AT_ONCE: usize = 256;

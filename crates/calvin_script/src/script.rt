@@ -1,0 +1,117 @@
+//! Batches, epochs and the whole script.
+ghost use Rattle.std.specs.Prelude.{◌≡◌, map, nat_eq};
+ghost use Rattle.std.specs.List.{list_all, list_any};
+ghost use Rattle.serde_json.specs.View.{view};
+ghost use Rattle.calvin_script.specs.Scripts.{listed, all_listed, contents, groups_fit, script};
+ghost use Rattle.calvin_script.specs.Gives.{Gives};
+
+use crate::contents::{Epoch, GroupBatch, Script};
+use crate::fields::{between, has_only, u8_of};
+use crate::list::{ScriptError, Spelled, list_of};
+use crate::operation::Operation;
+use calvin_types::{Batch, Fault};
+use serde_json::Value;
+use std::alloc::Global;
+
+impl<Op: Operation> Spelled for GroupBatch<Op> {
+    ghost use Rattle.calvin_script.specs.Scripts.{Listed, listed, batch};
+
+    ghost Meaning = { Listed Op };
+
+    ghost meaning = { listed };
+
+    ghost spelled = { batch Op.grammar };
+
+    #[tactic(auto, unfolding(crate::specs::Scripts::batch))]
+    fn from_json(alloc: Global, value: &Value) -> Result<GroupBatch<Op>, ScriptError> {
+        if !has_only(value, &["group", "txns"]) {
+            return Err(ScriptError::BadScript);
+        }
+        let group = value.get("group").ok_or(ScriptError::BadScript)?;
+        let group = u8_of(group).ok_or(ScriptError::BadScript)?;
+        let txns = value.get("txns").ok_or(ScriptError::BadScript)?;
+        let txns = list_of(alloc, txns)?;
+        match Batch::new(alloc, txns) {
+            Ok(batch) => Ok(GroupBatch { group, batch }),
+            Err(Fault::TooLong) => Err(ScriptError::BadScript),
+            Err(_) => Err(ScriptError::OutOfMemory),
+        }
+    }
+}
+
+impl<Op: Operation> Spelled for Epoch<Op> {
+    ghost use Rattle.std.specs.Prelude.{List};
+    ghost use Rattle.calvin_script.specs.Spelling.{list};
+    ghost use Rattle.calvin_script.specs.Scripts.{Listed, all_listed, batch};
+
+    ghost Meaning = { List (Listed Op) };
+
+    ghost meaning = { all_listed };
+
+    ghost spelled = { list (batch Op.grammar) };
+
+    fn from_json(alloc: Global, value: &Value) -> Result<Epoch<Op>, ScriptError> {
+        let batches = list_of(alloc, value)?;
+        Ok(Epoch { batches })
+    }
+}
+
+fn lists<Args>(batches: &[GroupBatch<Args>], group: u8) -> bool
+    ensures { result ≡ list_any (λ c. nat_eq c.group group) (map listed batches.now) }
+{
+    for batch in batches {
+        if batch.group == group {
+            return true;
+        }
+    }
+    false
+}
+
+/// Whether each group is one of the partitions, and none is listed twice.
+fn groups_fit<Args>(partitions: u8, batches: &[GroupBatch<Args>]) -> bool
+    ensures { result ≡ groups_fit partitions (map listed batches.now) }
+{
+    for (i, batch) in batches.iter().enumerate() {
+        if batch.group >= partitions || lists(&batches[i + 1..], batch.group) {
+            return false;
+        }
+    }
+    true
+}
+
+fn all_groups_fit<Args>(partitions: u8, epochs: &[Epoch<Args>]) -> bool
+    ensures { result ≡ list_all (groups_fit partitions) (map all_listed epochs.now) }
+{
+    for epoch in epochs {
+        if !groups_fit(partitions, &epoch.batches) {
+            return false;
+        }
+    }
+    true
+}
+
+/// The script that a piece of JSON spells.
+#[tactic(auto, unfolding(crate::specs::Scripts::script))]
+pub(crate) fn script_of<Op: Operation>(
+    alloc: Global,
+    value: &Value,
+) -> Result<Script<Op>, ScriptError>
+    ensures { Gives contents result (script Op.grammar (view value.now)) }
+{
+    if !has_only(value, &["partitions", "app", "epochs"]) {
+        return Err(ScriptError::BadScript);
+    }
+    let partitions = value.get("partitions").ok_or(ScriptError::BadScript)?;
+    let partitions = between(1, 16, partitions).ok_or(ScriptError::BadScript)?;
+    let app = value.get("app").ok_or(ScriptError::BadScript)?;
+    let app = app.as_str().ok_or(ScriptError::BadScript)?;
+    if app != Op::app_name() {
+        return Err(ScriptError::BadScript);
+    }
+    let epochs = value.get("epochs").ok_or(ScriptError::BadScript)?;
+    let epochs = list_of(alloc, epochs)?;
+    if !all_groups_fit(partitions, &epochs) {
+        return Err(ScriptError::BadScript);
+    }
+    Ok(Script { partitions, epochs })
+}

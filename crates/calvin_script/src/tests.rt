@@ -1,0 +1,457 @@
+use crate::{Epoch, GroupBatch, Script, script_from};
+use calvin_app::KvRequest;
+use calvin_types::{Batch, Fault, Key, KeySet, RequestId, Sets, Txn};
+use std::alloc::{AllocError, Global};
+use std::test::Fail;
+
+/// What the bytes are refused with, if they are.
+fn fault_of(alloc: Global, bytes: &[u8]) -> Option<Fault> {
+    match script_from::<KvRequest>(alloc, bytes) {
+        Ok(_script) => None,
+        Err(fault) => Some(fault),
+    }
+}
+
+/// A script of two partitions with these batches in its one epoch.
+fn with_batches(alloc: Global, batches: &str) -> Result<String, AllocError> {
+    format!(in alloc; r#"{{"partitions":2,"app":"kv","epochs":[[{batches}]]}}"#)
+}
+
+fn with_request(alloc: Global, request: &str) -> Result<String, AllocError> {
+    format!(in alloc;
+        r#"{{"partitions":2,"app":"kv","epochs":[[{{"group":1,"txns":[{request}]}}]]}}"#
+    )
+}
+
+fn with_operation(alloc: Global, operation: &str) -> Result<String, AllocError> {
+    format!(in alloc;
+        r#"{{"partitions":2,"app":"kv","epochs":[[{{"group":1,"txns":[{{"client":1,"number":1,"op":{operation}}}]}}]]}}"#
+    )
+}
+
+fn with_member(alloc: Global, member: &str) -> Result<String, AllocError> {
+    format!(in alloc;
+        r#"{{"partitions":2,"app":"kv","epochs":[[{{"group":1,"txns":[{{"client":1,"number":1,"op":["put",1,2],{member}}}]}}]]}}"#
+    )
+}
+
+/// A text so many times, with commas between.
+fn repeated(alloc: Global, text: &str, count: usize) -> Result<String, AllocError> {
+    let mut all = String::new(alloc);
+    for i in 0..count {
+        if 0 < i {
+            all.push_str(",")?;
+        }
+        all.push_str(text)?;
+    }
+    Ok(all)
+}
+
+/// The numbers below a count, each after the text before it and before the text after it.
+fn numbers(alloc: Global, before: &str, count: usize, after: &str) -> Result<String, AllocError> {
+    let mut all = String::new(alloc);
+    for i in 0..count {
+        if 0 < i {
+            all.push_str(",")?;
+        }
+        let one = format!(in alloc; "{before}{i}{after}")?;
+        all.push_str(one.as_str())?;
+    }
+    Ok(all)
+}
+
+#[test]
+fn bytes_that_are_no_json(rt: HostRuntime) {
+    let table: [&[u8]; 7] = [
+        b"",
+        b"{",
+        b"{\"partitions\":1,\"app\":\"kv\",\"epochs\":[]",
+        b"{\"partitions\":1,\"app\":\"kv\",\"epochs\":[]} x",
+        b"{\"partitions\":01,\"app\":\"kv\",\"epochs\":[]}",
+        b"{\"partitions\":1,\"app\":\"kv\xff\",\"epochs\":[]}",
+        b"\xff",
+    ];
+    for bytes in table {
+        assert_eq!(rt;
+            fault_of(rt.alloc(), bytes),
+            Some(Fault::BadJson),
+            "{bytes:?}"
+        );
+    }
+}
+
+#[test]
+fn nesting(rt: HostRuntime) -> Result<(), Fail> {
+    for (depth, fault) in [(127, Fault::BadScript), (128, Fault::BadJson)] {
+        let mut text = String::new(rt.alloc());
+        for _ in 0..depth {
+            text.push_str("[")?;
+        }
+        for _ in 0..depth {
+            text.push_str("]")?;
+        }
+        assert_eq!(rt;
+            fault_of(rt.alloc(), text.as_bytes()),
+            Some(fault),
+            "{depth}"
+        );
+    }
+    Ok(())
+}
+
+#[test]
+fn scripts(rt: HostRuntime) {
+    let bad = Some(Fault::BadScript);
+    let table = [
+        (r#"{"partitions":1,"app":"kv","epochs":[]}"#, None),
+        (r#"{"partitions":16,"app":"kv","epochs":[[],[]]}"#, None),
+        (r#" {"epochs":[],"app":"kv","partitions":1} "#, None),
+        (r#"{"app":"kv","epochs":[]}"#, bad),
+        (r#"{"partitions":1,"epochs":[]}"#, bad),
+        (r#"{"partitions":1,"app":"kv"}"#, bad),
+        (
+            r#"{"partitions":1,"app":"kv","epochs":[],"replicas":1}"#,
+            bad,
+        ),
+        (r#"{"partitions":1,"app":"kv","epochs":[],"":1}"#, bad),
+        (r#"{"partitions":0,"app":"kv","epochs":[]}"#, bad),
+        (r#"{"partitions":17,"app":"kv","epochs":[]}"#, bad),
+        (r#"{"partitions":257,"app":"kv","epochs":[]}"#, bad),
+        (r#"{"partitions":-1,"app":"kv","epochs":[]}"#, bad),
+        (r#"{"partitions":-0,"app":"kv","epochs":[]}"#, bad),
+        (r#"{"partitions":1.0,"app":"kv","epochs":[]}"#, bad),
+        (r#"{"partitions":1e0,"app":"kv","epochs":[]}"#, bad),
+        (r#"{"partitions":"1","app":"kv","epochs":[]}"#, bad),
+        (r#"{"partitions":null,"app":"kv","epochs":[]}"#, bad),
+        (r#"{"partitions":1,"app":"KV","epochs":[]}"#, bad),
+        (r#"{"partitions":1,"app":"stock","epochs":[]}"#, bad),
+        (r#"{"partitions":1,"app":"","epochs":[]}"#, bad),
+        (r#"{"partitions":1,"app":["kv"],"epochs":[]}"#, bad),
+        (r#"{"partitions":1,"app":"kv","epochs":{}}"#, bad),
+        (r#"{"partitions":1,"app":"kv","epochs":null}"#, bad),
+        (r#"{"partitions":1,"app":"kv","epochs":[{}]}"#, bad),
+        (r#"{"partitions":1,"app":"kv","epochs":[null]}"#, bad),
+        (r#"{"partitions":1,"app":"kv","epochs":[[[]]]}"#, bad),
+        ("[]", bad),
+        ("{}", bad),
+        ("null", bad),
+        ("1", bad),
+    ];
+    for (text, fault) in table {
+        assert_eq!(rt; fault_of(rt.alloc(), text.as_bytes()), fault, "{text}");
+    }
+}
+
+#[test]
+fn batches(rt: HostRuntime) -> Result<(), Fail> {
+    let bad = Some(Fault::BadScript);
+    let table = [
+        ("", None),
+        (r#"{"group":1,"txns":[]}"#, None),
+        (r#"{"group":1,"txns":[]},{"group":0,"txns":[]}"#, None),
+        (r#"{"txns":[],"group":1}"#, None),
+        (r#"{"group":2,"txns":[]}"#, bad),
+        (r#"{"group":256,"txns":[]}"#, bad),
+        (r#"{"group":-1,"txns":[]}"#, bad),
+        (r#"{"group":1,"txns":[]},{"group":1,"txns":[]}"#, bad),
+        (
+            r#"{"group":1,"txns":[]},{"group":0,"txns":[]},{"group":1,"txns":[]}"#,
+            bad,
+        ),
+        (r#"{"group":1}"#, bad),
+        (r#"{"txns":[]}"#, bad),
+        (r#"{"group":1,"txns":{}}"#, bad),
+        (r#"{"group":1,"txns":[null]}"#, bad),
+        (r#"{"group":1,"txns":[[]]}"#, bad),
+        (r#"{"group":1,"txns":[],"x":0}"#, bad),
+        (r#"{"group":"1","txns":[]}"#, bad),
+        ("null", bad),
+    ];
+    for (text, fault) in table {
+        let script = with_batches(rt.alloc(), text)?;
+        assert_eq!(rt; fault_of(rt.alloc(), script.as_bytes()), fault, "{text}");
+    }
+    Ok(())
+}
+
+#[test]
+fn requests(rt: HostRuntime) -> Result<(), Fail> {
+    let bad = Some(Fault::BadScript);
+    let table = [
+        (
+            r#"{"client":4294967295,"number":4294967295,"op":["put",1,2]}"#,
+            None,
+        ),
+        (r#"{"client":0,"number":0,"op":["put",1,2]}"#, None),
+        (r#"{"client":4294967296,"number":1,"op":["put",1,2]}"#, bad),
+        (r#"{"client":1,"number":4294967296,"op":["put",1,2]}"#, bad),
+        (r#"{"client":-1,"number":1,"op":["put",1,2]}"#, bad),
+        (r#"{"client":1,"number":-0,"op":["put",1,2]}"#, bad),
+        (r#"{"client":1.0,"number":1,"op":["put",1,2]}"#, bad),
+        (r#"{"client":1,"number":1e3,"op":["put",1,2]}"#, bad),
+        (r#"{"client":"1","number":1,"op":["put",1,2]}"#, bad),
+        (r#"{"client":1,"number":true,"op":["put",1,2]}"#, bad),
+        (r#"{"number":1,"op":["put",1,2]}"#, bad),
+        (r#"{"client":1,"op":["put",1,2]}"#, bad),
+        (r#"{"client":1,"number":1}"#, bad),
+        (
+            r#"{"client":1,"number":1,"op":["put",1,2],"Attempt":1}"#,
+            bad,
+        ),
+        (r#"{"client":1,"number":1,"op":["put",1,2],"opp":1}"#, bad),
+        (r#"{"client":1,"number":1,"op":["put",1,2],"op ":1}"#, bad),
+        (r#"{"client":1,"number":1,"op":["put",1,2],"":1}"#, bad),
+        ("{}", bad),
+        ("[]", bad),
+        ("null", bad),
+    ];
+    for (text, fault) in table {
+        let script = with_request(rt.alloc(), text)?;
+        assert_eq!(rt; fault_of(rt.alloc(), script.as_bytes()), fault, "{text}");
+    }
+    Ok(())
+}
+
+#[test]
+fn members_that_may_be_left_out(rt: HostRuntime) -> Result<(), Fail> {
+    let bad = Some(Fault::BadScript);
+    let table = [
+        (r#""attempt":1"#, None),
+        (r#""attempt":8"#, None),
+        (r#""attempt":0"#, bad),
+        (r#""attempt":9"#, bad),
+        (r#""attempt":255"#, bad),
+        (r#""attempt":256"#, bad),
+        (r#""attempt":null"#, bad),
+        (r#""reads":[],"writes":[[0,1]]"#, None),
+        (r#""reads":[[255,18446744073709551615]],"writes":[]"#, None),
+        (r#""reads":[[3,1],[0,7],[3,0]],"writes":[[0,1]]"#, None),
+        (r#""reads":[],"writes":[]"#, bad),
+        (r#""reads":[[0,1]]"#, bad),
+        (r#""writes":[[0,1]]"#, bad),
+        (r#""reads":null,"writes":[[0,1]]"#, bad),
+        (r#""reads":[[0,1]],"writes":null"#, bad),
+        (r#""reads":[[0,1],[1,1],[0,1]],"writes":[]"#, bad),
+        (r#""reads":[],"writes":[[0,1],[0,1]]"#, bad),
+        (r#""reads":[[256,1]],"writes":[]"#, bad),
+        (r#""reads":[[0,18446744073709551616]],"writes":[]"#, bad),
+        (r#""reads":[[0,-1]],"writes":[]"#, bad),
+        (r#""reads":[[0]],"writes":[]"#, bad),
+        (r#""reads":[[]],"writes":[]"#, bad),
+        (r#""reads":[[0,1,2]],"writes":[]"#, bad),
+        (r#""reads":[0,1],"writes":[]"#, bad),
+        (r#""reads":[{}],"writes":[]"#, bad),
+        (r#""reads":{},"writes":[[0,1]]"#, bad),
+    ];
+    for (text, fault) in table {
+        let script = with_member(rt.alloc(), text)?;
+        assert_eq!(rt; fault_of(rt.alloc(), script.as_bytes()), fault, "{text}");
+    }
+    Ok(())
+}
+
+#[test]
+fn operations(rt: HostRuntime) -> Result<(), Fail> {
+    let bad = Some(Fault::BadScript);
+    let table = [
+        (r#"["put",18446744073709551615,18446744073709551615]"#, None),
+        (r#"["add",0,0]"#, None),
+        (r#"["get",[18446744073709551615,0]]"#, None),
+        (r#"["put",18446744073709551616,1]"#, bad),
+        (r#"["put",1,18446744073709551616]"#, bad),
+        (r#"["add",1,18446744073709551616]"#, bad),
+        (r#"["get",[18446744073709551616]]"#, bad),
+        (r#"["put",-1,1]"#, bad),
+        (r#"["put",1,-0]"#, bad),
+        (r#"["put",1,1.0]"#, bad),
+        (r#"["add",1,1e3]"#, bad),
+        (r#"["put",1]"#, bad),
+        (r#"["put",1,2,3]"#, bad),
+        (r#"["put"]"#, bad),
+        (r#"["put","1",2]"#, bad),
+        (r#"["add",1]"#, bad),
+        (r#"["add",1,2,3]"#, bad),
+        (r#"["get"]"#, bad),
+        (r#"["get",1]"#, bad),
+        (r#"["get",[1],2]"#, bad),
+        (r#"["get",[[0,1]]]"#, bad),
+        (r#"["get",[1,1]]"#, bad),
+        (r#"["get",[1,2,1]]"#, bad),
+        (r#"["get",[]]"#, bad),
+        (r#"["get",{}]"#, bad),
+        (r#"["Put",1,2]"#, bad),
+        (r#"["putt",1,2]"#, bad),
+        (r#"["move",1,2,3]"#, bad),
+        (r#"["",1,2]"#, bad),
+        (r#"[1,1,2]"#, bad),
+        (r#"[null,1,2]"#, bad),
+        ("[]", bad),
+        ("{}", bad),
+        (r#""put""#, bad),
+    ];
+    for (text, fault) in table {
+        let script = with_operation(rt.alloc(), text)?;
+        assert_eq!(rt; fault_of(rt.alloc(), script.as_bytes()), fault, "{text}");
+    }
+    Ok(())
+}
+
+#[test]
+fn lists_of_keys(rt: HostRuntime) -> Result<(), Fail> {
+    for (count, fault) in [(16, None), (17, Some(Fault::BadScript))] {
+        let ids = numbers(rt.alloc(), "", count, "")?;
+        let operation = format!(in rt.alloc(); r#"["get",[{ids}]]"#)?;
+        let script = with_operation(rt.alloc(), operation.as_str())?;
+        assert_eq!(rt;
+            fault_of(rt.alloc(), script.as_bytes()),
+            fault,
+            "get {count}"
+        );
+        let keys = numbers(rt.alloc(), "[7,", count, "]")?;
+        let reads = format!(in rt.alloc(); r#""reads":[{keys}],"writes":[[0,1]]"#)?;
+        let script = with_member(rt.alloc(), reads.as_str())?;
+        assert_eq!(rt;
+            fault_of(rt.alloc(), script.as_bytes()),
+            fault,
+            "reads {count}"
+        );
+        let writes = format!(in rt.alloc(); r#""reads":[],"writes":[{keys}]"#)?;
+        let script = with_member(rt.alloc(), writes.as_str())?;
+        assert_eq!(rt;
+            fault_of(rt.alloc(), script.as_bytes()),
+            fault,
+            "writes {count}"
+        );
+    }
+    Ok(())
+}
+
+#[test]
+fn longest_batch(rt: HostRuntime) -> Result<(), Fail> {
+    let request = r#"{"client":1,"number":1,"op":["put",1,2]}"#;
+    for (count, fault) in [(256, None), (257, Some(Fault::BadScript))] {
+        let requests = repeated(rt.alloc(), request, count)?;
+        let batch = format!(in rt.alloc(); r#"{{"group":0,"txns":[{requests}]}}"#)?;
+        let script = with_batches(rt.alloc(), batch.as_str())?;
+        assert_eq!(rt; fault_of(rt.alloc(), script.as_bytes()), fault, "{count}");
+    }
+    Ok(())
+}
+
+/// The last one counts, whatever the others were.
+#[test]
+fn a_name_given_twice(rt: HostRuntime) {
+    let bad = Some(Fault::BadScript);
+    let table = [
+        (
+            r#"{"partitions":99,"app":"kv","epochs":[],"partitions":1}"#,
+            None,
+        ),
+        (
+            r#"{"partitions":1,"app":"kv","epochs":[],"partitions":99}"#,
+            bad,
+        ),
+        (r#"{"partitions":1,"app":7,"app":"kv","epochs":[]}"#, None),
+        (r#"{"partitions":1,"app":"kv","app":7,"epochs":[]}"#, bad),
+        (
+            r#"{"partitions":1,"app":"kv","epochs":[],"x":1,"x":2}"#,
+            bad,
+        ),
+    ];
+    for (text, fault) in table {
+        assert_eq!(rt; fault_of(rt.alloc(), text.as_bytes()), fault, "{text}");
+    }
+}
+
+fn key(table: u8, id: u64) -> Key {
+    Key { table, id }
+}
+
+fn id(client: u32, number: u32) -> RequestId {
+    RequestId { client, number }
+}
+
+/// A batch of group 1: a put, a get and an add, without declared sets.
+fn first_batch(alloc: Global) -> Result<GroupBatch<KvRequest>, Fault> {
+    let put = Txn {
+        id: id(7, 1),
+        attempt: 1,
+        args: KvRequest::Put(5, 9),
+        sets: Sets {
+            reads: KeySet::new(),
+            writes: KeySet::of(key(0, 5)),
+        },
+    };
+    let asked = KeySet::from_slice(&[key(0, 2), key(0, 5)])?;
+    let get = Txn {
+        id: id(7, 2),
+        attempt: 1,
+        args: KvRequest::Get(asked),
+        sets: Sets {
+            reads: asked,
+            writes: KeySet::new(),
+        },
+    };
+    let add = Txn {
+        id: id(4294967295, 0),
+        attempt: 8,
+        args: KvRequest::Add(5, 18446744073709551615),
+        sets: Sets {
+            reads: KeySet::of(key(0, 5)),
+            writes: KeySet::of(key(0, 5)),
+        },
+    };
+    let batch = Batch::new(alloc, vec![in alloc; put, get, add]?)?;
+    Ok(GroupBatch { group: 1, batch })
+}
+
+/// A batch of group 0: an add with declared sets.
+fn second_batch(alloc: Global) -> Result<GroupBatch<KvRequest>, Fault> {
+    let add = Txn {
+        id: id(1, 2),
+        attempt: 3,
+        args: KvRequest::Add(1, 2),
+        sets: Sets {
+            reads: KeySet::from_slice(&[key(0, 8), key(0, 9), key(200, 1)])?,
+            writes: KeySet::of(key(0, 9)),
+        },
+    };
+    let batch = Batch::new(alloc, vec![in alloc; add]?)?;
+    Ok(GroupBatch { group: 0, batch })
+}
+
+#[test]
+fn a_script_in_full(rt: HostRuntime) -> Result<(), Fail> {
+    let text = r#"{"partitions":2,"app":"kv","epochs":[
+        [{"group":1,"txns":[
+            {"client":7,"number":1,"op":["put",5,9]},
+            {"op":["get",[5,2]],"number":2,"client":7},
+            {"client":4294967295,"number":0,"attempt":8,"op":["add",5,18446744073709551615]}]},
+         {"group":0,"txns":[
+            {"client":1,"number":2,"op":["add",1,2],"attempt":3,"reads":[[200,1],[0,9],[0,8]],"writes":[[0,9]]}]}],
+        [],
+        [{"group":0,"txns":[]}]]}"#;
+    let alloc = rt.alloc();
+    let none = Batch::new(alloc, Vec::new(alloc))?;
+    let first = vec![in alloc; first_batch(alloc)?, second_batch(alloc)?]?;
+    let last = vec![in alloc;
+        GroupBatch {
+            group: 0,
+            batch: none
+        },
+    ]?;
+    let epochs = vec![in alloc;
+        Epoch { batches: first },
+        Epoch {
+            batches: Vec::new(alloc)
+        },
+        Epoch { batches: last },
+    ]?;
+    let expected = Script {
+        partitions: 2,
+        epochs,
+    };
+    let found = script_from::<KvRequest>(alloc, text.as_bytes())?;
+    assert_eq!(rt; found, expected);
+    Ok(())
+}

@@ -1,0 +1,4 @@
+pub mod Holdings
+pub mod Joins
+pub mod Results
+pub mod Runs
