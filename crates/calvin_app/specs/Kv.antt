@@ -1,6 +1,11 @@
 -- The application Kv: numbers by key, all in table 0.
---     kv      what it needs and does
+--     key_of id      the key of table 0 with this number
 --     asked keys      the keys that a get asks for: those of table 0, at most sixteen
+--     needs_of a rows      the keys that the request a reads and writes
+--     sum_outcome id sum fits      the reply to a sum, and what it writes, where it is below 2^64 or not
+--     outcome_of a rows      the reply to the request a on these rows, and what it writes
+--     kv      what the application needs and does
+--     kv_lawful      it keeps the laws of applications
 use Rattle.std.specs.Prelude.{◌≡◌, ℕ, zero, suc, ◌+◌, ◌^◌, ◌==◌, Bool, true, false, nat_lt, List, [], ◌∷◌, map, take, unwrap_or, refl}
 use Rattle.std.specs.List.{filter}
 use Rattle.std.specs.FinMap as finmap
@@ -17,9 +22,11 @@ use Rattle.calvin_app.specs.declared.kv.KvReply.TheVariants.{Done, Limit, Value,
 use Rattle.calvin_app.specs.Rows.{Rows}
 use Rattle.calvin_app.specs.Meaning.{Meaning, IsLawful, IsBounded, AllUpTo}
 
+-- the key of table 0 with this number
 abbrev pub key_of : ℕ → Key
 key_of id = record { table = 0; id = id }
 
+-- the keys that a get asks for
 abbrev pub asked : List Key → List Key
 asked keys = take 16 (filter (λ k. k.table == 0) keys)
 
@@ -40,6 +47,7 @@ outcome_of (Put id value) rows = (Done, (key_of id, value) ∷ [])
 outcome_of (Get keys) rows = (Values (map (finmap.get rows) (asked keys)), [])
 outcome_of (Add id amount) rows = let sum = unwrap_or (finmap.get rows (key_of id)) 0 + amount in sum_outcome id sum (nat_lt sum (2 ^ 64))
 
+-- what the application needs and does
 abbrev pub kv : Meaning KvRequest ℕ KvReply
 kv = record { needs = needs_of; outcome = outcome_of }
 
@@ -89,6 +97,7 @@ writes_bounded (Put id value) v = one_bounded id
 writes_bounded (Get keys) v = none_bounded
 writes_bounded (Add id amount) v = one_bounded id
 
+-- it keeps the laws of applications
 pub kv_lawful : IsLawful kv (λ _. false) 16 0
 kv_lawful = record {
   writes_within_the_sets = writes_within;

@@ -1,4 +1,7 @@
 -- Requests and replies of Kv that compare equal are the same.
+--     numbers_exact      rows
+--     requests_exact      requests
+--     replies_exact      replies
 use Rattle.std.specs.Prelude.{◌≡◌, ℕ, true, ◌==◌, refl}
 use Rattle.std.proofs.Common.{ap}
 use Rattle.std.proofs.lemmas.Bool.{eqb-true, false≢true}
@@ -12,9 +15,11 @@ use Rattle.calvin_app.specs.Meaning.{IsExact}
 use Rattle.calvin_app.specs.contracts.kv.KvRequestPartialEq.TheImpl as requests
 use Rattle.calvin_app.specs.contracts.kv.KvReplyPartialEq.TheImpl as replies
 
+-- numbers that compare equal are the same
 pub numbers_exact : IsExact (λ (a b : ℕ). a == b)
 numbers_exact = eqb-true
 
+-- requests that compare equal are the same
 pub requests_exact : (a b : KvRequest) → requests.ghosts.eq a b ≡ true → a ≡ b
 requests_exact (Put x y) (Put z w) h = λ i. Put (eqb-true x z (first _ _ h) i) (eqb-true y w (second _ _ h) i)
 requests_exact (Get x) (Get z) h = ap Get (pointwise_exact _ equal_keys_exact x z h)
@@ -26,6 +31,7 @@ requests_exact (Get x) (Add z w) h = absurd (false≢true h)
 requests_exact (Add x y) (Put z w) h = absurd (false≢true h)
 requests_exact (Add x y) (Get z) h = absurd (false≢true h)
 
+-- replies that compare equal are the same
 pub replies_exact : (a b : KvReply) → replies.ghosts.eq a b ≡ true → a ≡ b
 replies_exact Done Done h = refl
 replies_exact Limit Limit h = refl

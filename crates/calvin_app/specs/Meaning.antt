@@ -1,6 +1,8 @@
 -- What an application is: two definitions, and the laws that they keep.
 --     Meaning Args Row Reply      the sets that arguments need on a view, and the reply and the writes on it
 --     WritesWithin m      its writes are within the needed writes
+--     AllUpTo top keys      no key is in a table above top
+--     IsBounded most_keys top_table keys      no more keys than the limit, and none in a table above the top one
 --     IsLawful m dependent most_keys top_table      the laws of applications
 --     IsExact eq      values that compare equal are the same
 use Rattle.std.specs.Prelude.{◌≡◌, ℕ, ◌≤◌, Bool, true, false, List, [], ◌∷◌, length, map}
@@ -28,6 +30,7 @@ pub record IsBounded (most_keys top_table : ℕ) (keys : List Key) : Type 0 wher
   pub number : length keys ≤ most_keys
   pub tables : AllUpTo top_table keys
 
+-- the laws of applications
 pub record IsLawful {Args Row Reply : Type 0} (m : Meaning Args Row Reply) (dependent : Args → Bool) (most_keys top_table : ℕ) : Type 0 where
   -- a request writes only keys of the writes that it needs
   pub writes_within_the_sets : WritesWithin m

@@ -1,4 +1,8 @@
--- Where a key stands among entries in order, or where it would.
+-- Where a key stands among entries in order, or among writes, or where it would.
+--     IsAt key entries i      the key stands at the place i
+--     IsMissingAt key entries i      the key is missing, and would stand at the place i
+--     IsUnwritten key writes      the key isn't written yet, and one more write of it stands at the end
+--     IsWrittenAt key writes i      the key is written at the place i
 use Rattle.calvin_app.specs.Writing.{with_write, keys_of}
 use Rattle.std.specs.Prelude.{true, false, [], ◌∷◌, ◌++◌, ◌≡◌, ℕ, ◌<◌, ◌≤◌, List, length, slice_set}
 use Rattle.std.specs.List.{insert}

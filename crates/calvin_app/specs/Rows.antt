@@ -8,6 +8,7 @@ use Rattle.std.specs.FinMap.{FinMap, insert, retain_keys}
 use Rattle.calvin_types.specs.declared.key.Key.{Key}
 use Rattle.calvin_types.specs.Keys.{key_cmp, has, partition_of}
 
+-- a finite map from keys to rows
 abbrev pub Rows : Type 0 → Type 0
 Rows Row = FinMap {K = Key} key_cmp Row
 

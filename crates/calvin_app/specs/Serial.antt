@@ -1,4 +1,5 @@
 -- Requests run one at a time on one undivided map.
+--     is_current m t v      whether the declared sets of t are those that it needs on the view v
 --     answer_on m t v, writes_on m t v      what the request t is answered, and what it writes, on its view
 --     answer_one m t rows, after_one m t rows      one request: its answer, and the rows after it
 --     serial m requests rows      one request after another: the last rows, and the answers
@@ -21,9 +22,11 @@ module _ {Args Row Reply : Type 0} (m : Meaning Args Row Reply) where
   abbrev pub is_current : Txn Args → Rows Row → Bool
   is_current t v = same_sets (m.needs t.args v) t.sets
 
+  -- what the request is answered on its view
   unfoldable pub answer_on : Txn Args → Rows Row → Answer Reply
   answer_on t v = if is_current t v then answer.Reply (m.outcome t.args v).0 else answer.Changed
 
+  -- what the request writes on its view
   unfoldable pub writes_on : Txn Args → Rows Row → List (Key × Row)
   writes_on t v = if is_current t v then (m.outcome t.args v).1 else []
 

@@ -14,6 +14,7 @@ pub trait App {
     /// What a request asks for.
     type Args: Copy + Eq;
 
+    /// What is stored under a key.
     type Row: Copy + Eq;
 
     /// What a request is told.
@@ -25,8 +26,10 @@ pub trait App {
     /// Whether the sets that arguments need may depend on rows.
     ghost is_dependent: { Self.Args → Bool };
 
+    /// The most keys of a set that a request needs.
     ghost key_limit: { ℕ };
 
+    /// The highest table of a key that a request needs.
     ghost table_limit: { ℕ };
 
     /// No set that a request needs has more keys than this; it is at most 16.
@@ -37,15 +40,16 @@ pub trait App {
     fn top_table(&self) -> u8
         ensures { result ≡ table_limit };
 
-    /// Whether the sets may depend on rows, so that they have to be looked for before the request can be declared.
+    /// Whether the sets may depend on rows, so that they have to be looked for before the request can be declared
+    /// (Thomson et al. 2012, section 3.2.1: a dependent transaction, whose sets a reconnaissance query finds).
     fn dependent(&self, args: &Self::Args) -> bool
         ensures { result ≡ is_dependent args.now };
 
-    /// The sets that the request needs on these rows.
+    /// The sets that the request needs on these rows. A key that the view doesn't have counts as one without a row.
     fn sets(&self, args: &Self::Args, view: &View<Self::Row>) -> Sets
         ensures { result ≡ meaning.needs args.now view.now };
 
-    /// What the request is told and what it writes on these rows.
+    /// What the request is told and what it writes on these rows. It writes only keys of the writes that it needs.
     fn run(&self, args: &Self::Args, view: &View<Self::Row>) -> (Self::Reply, Writes<Self::Row>)
         ensures { result ≡ meaning.outcome args.now view.now };
 

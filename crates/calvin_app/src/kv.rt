@@ -10,30 +10,32 @@ use crate::view::View;
 use crate::writes::Writes;
 use calvin_types::{Few, Key, KeySet, MOST_KEYS, Sets};
 
-/// What is asked of numbers by key, all in table 0.
+/// What is asked of numbers by key, all in table 0. A key is named by its number there.
 #[derive(Clone, Copy, Debug, PartialEq, Eq)]
 pub enum KvRequest {
-    /// The number under a key becomes this one.
+    /// The number under the first becomes the second; answered `Done`. It writes the key and reads none.
     Put(u64, u64),
-    /// The numbers under keys; those of other tables than 0 aren't looked at.
+    /// The numbers under keys; answered `Values`. It reads the keys of table 0 and looks at no others.
     Get(KeySet),
-    /// The number under a key grows by this one; no number counts as 0.
+    /// The number under the first grows by the second, and none counts as 0; answered `Value` or `Limit`. It reads and
+    /// writes the key.
     Add(u64, u64),
 }
 
 /// What is told of numbers by key.
 #[derive(Clone, Copy, Debug, PartialEq, Eq)]
 pub enum KvReply {
+    /// The number was put.
     Done,
     /// The sum would be above 2^64 - 1, and nothing was written.
     Limit,
-    /// The sum.
+    /// The sum, which was written.
     Value(u64),
     /// For each key asked for, ascending, its number or none.
     Values(Few<Option<u64>>),
 }
 
-/// Numbers by key.
+/// The application, which keeps nothing itself: the numbers are its rows.
 #[derive(Clone, Copy, Debug)]
 pub struct Kv;
 

@@ -1,4 +1,5 @@
-//! Requests run one at a time.
+//! Requests run one at a time, on one undivided map: what every other run of them has to agree with (Thomson et al.
+//! 2012, section 3: the order of requests is fixed first, and execution is equivalent to running them serially in it).
 ghost use Rattle.calvin_app.specs.declared.answer.Answer.TheVariants.{Changed};
 ghost use Rattle.std.specs.Prelude.{◌≡◌, ◌≢◌, ◌≤◌, ℕ, length, take, IfOk, OnOk, OnErr, IsOkUnless};
 ghost use Rattle.std.specs.FinMap as map;
@@ -48,7 +49,8 @@ impl<A: App> Serial<A> {
         &self.rows
     }
 
-    /// Runs one request. Refused for want of memory alone, and then nothing has changed.
+    /// Runs one request: it is answered `Changed` where its declared sets aren't, key for key, those that it needs on
+    /// the rows of its declared reads. Refused for want of memory alone, and then nothing has changed.
     #[tactic(auto, unfolding(crate::specs::Serial::answer_on, crate::specs::Serial::writes_on))]
     pub fn apply(&mut self, txn: &Txn<A::Args>) -> Result<Answer<A::Reply>, Fault>
         ensures answer { IfOk result (λ answer. answer ≡ answer_one A.meaning txn.now self.old) }
@@ -68,8 +70,8 @@ impl<A: App> Serial<A> {
         Ok(Answer::Reply(reply))
     }
 
-    /// Runs requests one after another. Refused for want of memory alone, and then the requests of some beginning have
-    /// been run and no others.
+    /// Runs requests one after another, and gives an answer for each. Refused for want of memory alone, and then the
+    /// requests of some beginning have been run and no others.
     pub fn run(
         &mut self,
         alloc: Global,

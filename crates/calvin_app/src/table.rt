@@ -45,7 +45,7 @@ impl<Row: Copy> Table<Row> {
         self.rows.get(key).copied()
     }
 
-    /// The rows of some keys.
+    /// The rows of some keys; those that have none are left out.
     pub fn view_of(&self, keys: &KeySet) -> View<Row>
         ensures { result ≡ view self.now keys.now }
     {
@@ -60,7 +60,7 @@ impl<Row: Copy> Table<Row> {
         view
     }
 
-    /// Overwrites rows, all of them or none.
+    /// Overwrites rows, all of them or none: refused for want of memory before the first is written.
     pub fn overwrite(&mut self, writes: &Writes<Row>) -> Result<(), Fault>
         ensures ok { OnOk result (self.new ≡ overwritten self.old writes.now) }
         ensures err { OnErr result (self.new ≡ self.old) }

@@ -1,5 +1,5 @@
-// The rows that a request writes.
-ghost use Rattle.std.specs.Prelude.{◌≡◌, [], ◌∷◌, ◌++◌, ◌<◌, ◌≤◌, ◌↔◌, false, length, slice_get, OnOk, OnErr, IsErrOf, MatchOption};
+//! The rows that a request writes.
+ghost use Rattle.std.specs.Prelude.{◌≡◌, [], ◌∷◌, ◌++◌, ◌<◌, ◌≤◌, ◌↔◌, false, length, slice_get, OnOk, OnErr, IsErrOf, IsOkUnless, MatchOption};
 ghost use Rattle.calvin_app.specs.Places.{IsUnwritten, IsWrittenAt};
 ghost use Rattle.calvin_types.specs.Keys.{has};
 ghost use Rattle.calvin_app.specs.Writing.{keys_of, with_write};
@@ -8,7 +8,7 @@ use calvin_types::{Fault, Few, Key};
 use std::alloc::AllocError;
 use std::marker::Model;
 
-/// At most sixteen keys with rows, which contracts see as the list of these pairs.
+/// At most sixteen keys with rows, in the order of their first writing, which contracts see as the list of these pairs.
 pub struct Writes<Row> {
     pairs: Few<(Key, Row)>,
 }
@@ -27,12 +27,19 @@ impl<Row> Model for Writes<Row> {
 impl<Row: Copy> Copy for Writes<Row> {}
 
 impl<Row: Copy> Clone for Writes<Row> {
+    ghost use Rattle.std.specs.Prelude.{◌≡◌, ⊤};
+
+    ghost is_clone = { λ x y. y ≡ x };
+
+    ghost is_infallible = { λ _. ⊤ };
+
     fn clone(&self) -> Result<Writes<Row>, AllocError> {
         Ok(*self)
     }
 }
 
 impl<Row: Copy> Writes<Row> {
+    /// No writes.
     pub fn new() -> Writes<Row>
         ensures { result ≡ [] }
     {
@@ -48,6 +55,7 @@ impl<Row: Copy> Writes<Row> {
         Writes { pairs }
     }
 
+    /// How many keys are written.
     pub fn len(&self) -> usize
         ensures len { result ≡ length self.now }
         ensures at_most { length self.now ≤ 16 }
@@ -55,6 +63,7 @@ impl<Row: Copy> Writes<Row> {
         self.pairs.len()
     }
 
+    /// The key with `i` keys before it, and its row.
     pub fn at(&self, i: usize) -> (Key, Row)
         requires { i < length self.now }
         ensures { slice_get self.now i ≡ Some result }
@@ -62,10 +71,12 @@ impl<Row: Copy> Writes<Row> {
         self.pairs.at(i)
     }
 
-    /// Writes a row, in place of the one that is written under this key already.
+    /// Writes a row, in place of the one that is written under this key already. Refused with `TooManyKeys` where the
+    /// key would be the seventeenth.
     pub fn put(&mut self, key: Key, row: Row) -> Result<(), Fault>
         ensures ok { OnOk result (self.new ≡ with_write key row self.old) }
         ensures err { OnErr result (self.new ≡ self.old) }
+        ensures only { IsOkUnless result Fault.TooManyKeys }
         ensures full { IsErrOf result Fault.TooManyKeys ↔ ((length self.old ≡ 16) × (has (keys_of self.old) key ≡ false)) }
     {
         match find_write(&self.pairs, key) {

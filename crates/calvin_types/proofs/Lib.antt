@@ -1,5 +1,5 @@
 pub mod Fews
 pub mod HashMaps
 pub mod KeyLists
+pub mod ListTests
 pub mod Risings
-pub mod Tests

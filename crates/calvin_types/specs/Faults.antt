@@ -5,6 +5,7 @@ use Rattle.std.specs.Prelude.{ℕ, List, codes}
 use Rattle.calvin_types.specs.declared.fault.Fault.{Fault}
 use Rattle.calvin_types.specs.declared.fault.Fault.TheVariants.{OutOfMemory, TooManyKeys, Repeated, BadConfig, TooLong, NotComplete, BadJson, BadScript, ScriptTooLong, ReadFailed, WriteFailed}
 
+-- the number of a fault, by which programs tell refusals apart
 abbrev pub number_of : Fault → ℕ
 number_of OutOfMemory = 1
 number_of TooManyKeys = 2
@@ -18,6 +19,7 @@ number_of ScriptTooLong = 92
 number_of ReadFailed = 95
 number_of WriteFailed = 96
 
+-- the name of a fault, as messages print it
 abbrev pub name_of : Fault → List ℕ
 name_of OutOfMemory = codes "OutOfMemory"
 name_of TooManyKeys = codes "TooManyKeys"

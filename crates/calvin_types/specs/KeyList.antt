@@ -1,4 +1,5 @@
 -- How at most sixteen keys stand in sixteen places of tables and of numbers: zero after the last one.
+--     paired tables ids      tables and numbers in pairs
 --     keys_of tables ids size      the keys that stand in the first places
 --     tables_of keys, ids_of keys      their tables and their numbers, and zero up to sixteen
 --     IsKeyList tables ids size      the places are those of at most sixteen keys
@@ -11,15 +12,19 @@ paired [] ids = []
 paired (t ∷ ts) [] = []
 paired (t ∷ ts) (i ∷ is) = record { table = t; id = i } ∷ paired ts is
 
+-- the first keys, so many
 abbrev pub keys_of : List ℕ → List ℕ → ℕ → List Key
 keys_of tables ids size = take size (paired tables ids)
 
+-- the tables of keys, and zero up to sixteen
 abbrev pub tables_of : List Key → List ℕ
 tables_of ks = map (λ k. k.table) ks ++ replicate (16 - length ks) 0
 
+-- the numbers of keys, and zero up to sixteen
 abbrev pub ids_of : List Key → List ℕ
 ids_of ks = map (λ k. k.id) ks ++ replicate (16 - length ks) 0
 
+-- the places are those of at most sixteen keys
 pub record IsKeyList (tables ids : List ℕ) (size : ℕ) : Type 0 where
   pub at_most : size ≤ 16
   pub size_is : length (keys_of tables ids size) ≡ size

@@ -1,7 +1,10 @@
 -- Keys, their order, and lists of keys that rise.
 --     key_cmp a b      keys are ordered by table, and then by id
+--     same_key a b      whether two keys are one
 --     has keys k      whether k is one of the keys
+--     below_all k keys      whether a key is below all of the keys
 --     rises keys      whether each key is below all that follow it
+--     by_order o a b c      one of three, as an order says
 --     insert_key q keys, insert_all qs keys      rising keys with one more, or with several more, each in its place unless it is there
 --     partition_of count k      which of so many partitions stores k (Thomson et al. 2012, section 2: each record in one partition)
 use Rattle.std.specs.Prelude.{ℕ, Bool, true, ◌&&◌, List, [], ◌∷◌, ◌%◌}

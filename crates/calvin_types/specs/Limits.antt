@@ -2,6 +2,7 @@
 --     IsInRange partitions replicas      1 to 16 partitions and 1 to 7 replicas
 use Rattle.std.specs.Prelude.{ℕ, ◌≤◌, ◌<◌}
 
+-- 1 to 16 partitions and 1 to 7 replicas
 pub record IsInRange (partitions replicas : ℕ) : Type 0 where
   pub some_partition : 0 < partitions
   pub partitions_at_most : partitions ≤ 16

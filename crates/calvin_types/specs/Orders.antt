@@ -11,6 +11,7 @@ use Rattle.calvin_types.specs.declared.place.Place.{Place}
 use Rattle.calvin_types.specs.declared.txn.Txn.{Txn}
 use Rattle.calvin_types.specs.Places.{place_cmp, IsBefore}
 
+-- requests, each with its place
 abbrev pub Order : Type 0 → Type 0
 Order Args = List (Place × Txn Args)
 

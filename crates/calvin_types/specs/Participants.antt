@@ -1,7 +1,8 @@
 -- Which partitions take part in a request (Thomson et al. 2012, section 3.3).
---     Site      one of so many partitions
+--     Site, site partitions partition      one of so many partitions
 --     is_local site k      whether the site stores the key k
 --     local_keys site keys      the keys that the site stores
+--     declared_keys t      the keys that t declares: those that it reads and those that it writes
 --     has_local_key site t      whether the site takes part in t: it stores a declared key of t
 --     is_least site t      whether the site is the participant of least number
 --     is_active site t      whether the site runs t: it stores a key that t writes, or is the least participant
@@ -16,6 +17,7 @@ pub record Site : Type 0 where
   pub partitions : ℕ
   pub partition : ℕ
 
+-- the partition of this number, of so many
 abbrev pub site : ℕ → ℕ → Site
 site partitions partition = record { partitions = partitions; partition = partition }
 

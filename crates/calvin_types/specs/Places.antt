@@ -12,15 +12,19 @@ use Rattle.calvin_types.specs.declared.place.Slot.{Slot}
 use Rattle.calvin_types.specs.declared.place.Ballot.{Ballot}
 use Rattle.calvin_types.specs.declared.place.NodeId.{NodeId}
 
+-- by epoch, and then by number
 abbrev pub place_cmp : Place → Place → Ordering
 place_cmp a b = ordering_then (nat_cmp a.epoch b.epoch) (nat_cmp a.n b.n)
 
+-- by epoch, and then by group
 abbrev pub slot_cmp : Slot → Slot → Ordering
 slot_cmp a b = ordering_then (nat_cmp a.epoch b.epoch) (nat_cmp a.group b.group)
 
+-- by round, and then by replica
 abbrev pub ballot_cmp : Ballot → Ballot → Ordering
 ballot_cmp a b = ordering_then (nat_cmp a.round b.round) (nat_cmp a.replica b.replica)
 
+-- by replica, and then by partition
 abbrev pub node_cmp : NodeId → NodeId → Ordering
 node_cmp a b = ordering_then (nat_cmp a.replica b.replica) (nat_cmp a.partition b.partition)
 

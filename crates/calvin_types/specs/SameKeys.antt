@@ -1,6 +1,8 @@
 -- Whether two lists of keys, or two pairs of sets, are the same.
 --     equal_keys a b      whether two keys are the same
 --     same_keys, same_sets      whether lists of keys are, one by one;  whether both sets are
+--     equal_keys_exact, equal_keys_self      keys for which the test holds are one;  it holds for each key and itself
+--     equal_keys_equiv, same_keys_equiv, same_keys_per      both tests are equivalences
 use Rattle.std.specs.Prelude.{◌≡◌, Bool, true, false, ◌&&◌, ◌==◌, List, refl}
 use Rattle.std.specs.Cmp.{IsEquivalence, IsPartialEquivalence, partial_equiv_from_equiv}
 use Rattle.std.specs.Cmp.Lexicographic.{pointwise, lists_equiv}
@@ -10,9 +12,11 @@ use Rattle.calvin_types.specs.declared.key.Key.{Key}
 use Rattle.calvin_types.specs.declared.key_set.Sets.{Sets}
 use Rattle.calvin_types.specs.Exact.{first, second}
 
+-- whether two keys are the same
 abbrev pub equal_keys : Key → Key → Bool
 equal_keys a b = (a.table == b.table) && (a.id == b.id)
 
+-- whether two lists of keys are the same, one by one
 abbrev pub same_keys : List Key → List Key → Bool
 same_keys = pointwise equal_keys
 
@@ -20,18 +24,22 @@ same_keys = pointwise equal_keys
 abbrev pub same_sets : Sets → Sets → Bool
 same_sets a b = same_keys a.reads b.reads && same_keys a.writes b.writes
 
+-- keys for which the test holds are one
 pub equal_keys_exact : (a b : Key) → equal_keys a b ≡ true → a ≡ b
 equal_keys_exact a b h = λ i. record { table = eqb-true a.table b.table (first _ _ h) i; id = eqb-true a.id b.id (second (a.table == b.table) _ h) i }
 
+-- it holds for each key and itself
 pub equal_keys_self : (a : Key) → equal_keys a a ≡ true
 equal_keys_self a = (λ i. eq-eqb a.table a.table refl i && eq-eqb a.id a.id refl i)
 
+-- it holds both ways or neither
 turned : (a b : Key) → (c : Bool) → equal_keys a b ≡ c → (d : Bool) → equal_keys b a ≡ d → equal_keys a b ≡ equal_keys b a
 turned a b true p true q = p ∙ sym q
 turned a b true p false q = absurd (false≢true (sym q ∙ ap (λ x. equal_keys b x) (equal_keys_exact a b p) ∙ equal_keys_self b))
 turned a b false p true q = absurd (false≢true (sym p ∙ ap (λ x. equal_keys a x) (equal_keys_exact b a q) ∙ equal_keys_self a))
 turned a b false p false q = p ∙ sym q
 
+-- both tests are equivalences
 pub equal_keys_equiv : IsEquivalence equal_keys
 equal_keys_equiv = record {
   refl = equal_keys_self;

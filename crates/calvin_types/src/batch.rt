@@ -1,4 +1,5 @@
-//! A batch of at most 256 requests, whose copies share the memory.
+//! A batch of at most 256 requests, whose copies share the memory (Thomson et al. 2012, section 3.1: a sequencer
+//! compiles the requests of an epoch into a batch).
 ghost use Rattle.std.specs.Prelude.{◌≡◌, ◌≤◌, ◌<◌, ◌↔◌, ◌⊎◌, length, IfErr, IfOk, IsErrOf, slice_get, IsOkUnless};
 
 use crate::fault::Fault;
@@ -7,7 +8,7 @@ use crate::txn::Txn;
 use std::alloc::Global;
 use std::marker::Model;
 
-/// At most 256 requests in order, which contracts see as a list.
+/// At most 256 requests in order, which contracts see as a list. None can be changed, added or taken away.
 #[derive(Debug, Drop, PartialEq, Eq)]
 pub struct Batch<Args> {
     txns: Shared<Txn<Args>>,
@@ -27,7 +28,8 @@ impl<Args> Model for Batch<Args> {
 }
 
 impl<Args: Copy> Batch<Args> {
-    /// A batch of these requests, which are not copied.
+    /// A batch of these requests, which are not copied. Refused with `TooLong` for more than 256 of them, and with
+    /// `OutOfMemory` where the word that counts the owners can't be had.
     pub fn new(alloc: Global, txns: Vec<Txn<Args>>) -> Result<Batch<Args>, Fault>
         ensures ok { IfOk result (λ b. b ≡ txns.items) }
         ensures long { IsErrOf result Fault.TooLong ↔ (256 < length txns.items) }
@@ -40,6 +42,7 @@ impl<Args: Copy> Batch<Args> {
         Ok(Batch { txns })
     }
 
+    /// How many requests there are.
     pub fn len(&self) -> usize
         ensures len { result ≡ length self.now }
         ensures at_most { length self.now ≤ 256 }
@@ -47,19 +50,22 @@ impl<Args: Copy> Batch<Args> {
         self.txns.as_slice().len()
     }
 
+    /// The requests, in order.
     pub fn as_slice(&self) -> &[Txn<Args>]
         ensures { result.now ≡ self.now }
     {
         self.txns.as_slice()
     }
 
+    /// The request with `i` requests before it, if there is one.
     pub fn get(&self, i: usize) -> Option<Txn<Args>>
         ensures { result ≡ slice_get self.now i }
     {
         self.txns.as_slice().get(i).copied()
     }
 
-    /// Another owner of the same memory.
+    /// Another owner of the same memory. It takes none of its own, and is refused with `OutOfMemory` only where there
+    /// are 2^63 - 1 owners.
     pub fn copy(&self) -> Result<Batch<Args>, Fault>
         ensures ok { IfOk result (λ b. b ≡ self.now) }
         ensures err { IsOkUnless result Fault.OutOfMemory }

@@ -6,7 +6,8 @@ ghost use Rattle.calvin_types.specs.Limits.{IsInRange};
 use crate::fault::Fault;
 use crate::key::Key;
 
-/// The numbers of partitions (1 to 16) and of replicas (1 to 7).
+/// The numbers of partitions (1 to 16) and of replicas (1 to 7). Each replica holds every partition, each on a node of
+/// its own (Thomson et al. 2012, section 3).
 #[derive(Clone, Copy, Debug, PartialEq, Eq)]
 pub struct Config {
     pub partitions: u8,
@@ -15,7 +16,7 @@ pub struct Config {
 }
 
 impl Config {
-    /// Refused with `BadConfig` outside these ranges.
+    /// The configuration with these numbers. Refused with `BadConfig` where either is outside its range.
     pub fn new(partitions: u8, replicas: u8) -> Result<Config, Fault>
         ensures partitions { IfOk result (λ c. c.partitions ≡ partitions) }
         ensures replicas { IfOk result (λ c. c.replicas ≡ replicas) }
@@ -31,7 +32,8 @@ impl Config {
         })
     }
 
-    /// The partition that stores a key.
+    /// The partition that stores a key: the remainder of the key's number, whatever its table, so that rows of several
+    /// tables with one number lie together.
     pub fn partition_of(&self, key: &Key) -> u8
         ensures partition { result ≡ partition_of self.now.partitions key.now }
         ensures there { result < self.now.partitions }

@@ -5,19 +5,19 @@ ghost use Rattle.calvin_types.specs.Faults.{number_of, name_of};
 use std::alloc::{AllocError, AllocFailed};
 use thiserror::Error;
 
-/// Why a call was refused. Each refusal leaves the value that it was asked of as it was.
+/// Why a call was refused. Unless the call says otherwise, a refusal leaves the value that it was asked of as it was.
 #[derive(Clone, Copy, Debug, PartialEq, Eq, Error)]
 pub enum Fault {
-    /// A growth was refused.
+    /// There was no memory for what the call had to make or to grow.
     #[error("OutOfMemory")]
     OutOfMemory,
     /// A set of keys, or a request's writes, would have more than sixteen keys.
     #[error("TooManyKeys")]
     TooManyKeys,
-    /// A key is named twice.
+    /// A key stands twice in a list that is to be a set.
     #[error("Repeated")]
     Repeated,
-    /// There are 1 to 16 partitions and 1 to 7 replicas.
+    /// A number of partitions or of replicas is out of range: there are 1 to 16 partitions and 1 to 7 replicas.
     #[error("BadConfig")]
     BadConfig,
     /// A batch would have more than 256 requests.

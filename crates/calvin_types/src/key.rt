@@ -1,6 +1,7 @@
 //! A key of the store.
 
-/// A key: its table, and its number there. Keys are ordered by table first.
+/// A key: its table, and its number there. Keys are ordered by table first. The number alone chooses the partition that
+/// stores the key's row.
 #[derive(Clone, Copy, Debug, PartialEq, Eq, PartialOrd, Ord, Hash)]
 pub struct Key {
     pub table: u8,

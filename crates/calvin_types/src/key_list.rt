@@ -57,6 +57,7 @@ impl Eq for KeyList {
 }
 
 impl KeyList {
+    /// No keys.
     pub(crate) fn new() -> KeyList
         ensures { result ≡ [] }
     {
@@ -67,6 +68,7 @@ impl KeyList {
         }
     }
 
+    /// How many keys there are.
     pub(crate) fn len(&self) -> usize
         ensures len { result ≡ length self.now }
         ensures at_most { length self.now ≤ 16 }
@@ -74,6 +76,7 @@ impl KeyList {
         self.size
     }
 
+    /// The key with `i` keys before it.
     pub(crate) fn at(&self, i: usize) -> Key
         requires { i < length self.now }
         ensures { slice_get self.now i ≡ Some result }
@@ -86,6 +89,7 @@ impl KeyList {
         }
     }
 
+    /// Puts a key at the end.
     pub(crate) fn push(&mut self, key: Key)
         requires { length self.old < 16 }
         ensures { self.new ≡ self.old ++ key ∷ [] }
@@ -95,6 +99,7 @@ impl KeyList {
         self.size += 1;
     }
 
+    /// Puts a key in place of the one with `i` keys before it.
     pub(crate) fn set(&mut self, i: usize, key: Key)
         requires { i < length self.old }
         ensures { self.new ≡ slice_set self.old i key }
@@ -105,6 +110,7 @@ impl KeyList {
         self.ids[i] = key.id;
     }
 
+    /// Puts a key behind the first `i`, and moves those that follow by one.
     pub(crate) fn insert(&mut self, i: usize, key: Key)
         requires at_most { i ≤ length self.old }
         requires room { length self.old < 16 }

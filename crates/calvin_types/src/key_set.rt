@@ -1,5 +1,5 @@
-//! Sets of at most sixteen keys.
-ghost use Rattle.std.specs.Prelude.{◌≡◌, ◌==◌, ℕ, ◌<◌, ◌≤◌, ◌↔◌, [], ◌∷◌, length, IsTrue, nat_le, slice_get, IfOk, OnOk, OnErr, IsErr, IsErrOf, IsOkUnless, MatchResult};
+//! Sets of at most sixteen keys, and the two sets that a request declares.
+ghost use Rattle.std.specs.Prelude.{◌≡◌, ◌==◌, ℕ, ◌<◌, ◌≤◌, ◌↔◌, [], ◌∷◌, length, IsTrue, nat_le, slice_get, ◌⊎◌, IfErr, IfOk, OnOk, OnErr, IsErr, IsErrOf, IsOkUnless, MatchResult};
 ghost use Rattle.std.specs.List.{filter, list_any, list_all};
 ghost use Rattle.calvin_types.specs.KeyPlaces.{IsAt, IsMissingAt};
 ghost use Rattle.calvin_types.specs.Keys.{rises, has, insert_key, insert_all, partition_of};
@@ -12,7 +12,8 @@ use crate::key_list::KeyList;
 use std::cmp::Ordering;
 use std::marker::Model;
 
-/// A set of at most sixteen keys, which contracts see as the list of its keys, rising.
+/// A set of at most sixteen keys, which contracts see as the list of its keys, rising. It stands in the value itself,
+/// so copying it allocates nothing.
 #[derive(Clone, Copy, Debug, PartialEq, Eq)]
 pub struct KeySet {
     keys: KeyList,
@@ -124,7 +125,7 @@ impl KeySet {
         Ok(all)
     }
 
-    /// The keys that a partition stores.
+    /// The keys that a partition stores; none for a number that isn't a partition's.
     pub fn part(&self, config: &Config, partition: u8) -> KeySet
         ensures { result ≡ local_keys (site config.now.partitions partition) self.now }
     {
@@ -165,7 +166,7 @@ impl KeySet {
         false
     }
 
-    /// Whether no key is stored in a lower partition.
+    /// Whether no key is stored in a lower partition; so it is of the empty set.
     pub fn is_none_below(&self, config: &Config, partition: u8) -> bool
         ensures { result ≡ list_all (λ k. nat_le partition (partition_of config.now.partitions k)) self.now }
     {
@@ -177,11 +178,12 @@ impl KeySet {
         true
     }
 
-    /// The set of distinct keys, in any order. Refused with `TooManyKeys` for more than sixteen keys, and with `Repeated`
-    /// where one comes twice.
+    /// The set of distinct keys, in any order. Refused with `TooManyKeys` for more than sixteen keys, and with
+    /// `Repeated` where one comes twice.
     pub fn from_slice(keys: &[Key]) -> Result<KeySet, Fault>
         ensures ok { IfOk result (λ all. all ≡ insert_all keys.now []) }
         ensures many { IsErrOf result Fault.TooManyKeys ↔ (16 < length keys.now) }
+        ensures only { IfErr result (λ fault. (fault ≡ Fault.TooManyKeys) ⊎ (fault ≡ Fault.Repeated)) }
         ensures repeated { IsErrOf result Fault.Repeated ↔ ((length keys.now ≤ 16) × (length (insert_all keys.now []) < length keys.now)) }
     {
         if keys.len() > MOST_KEYS {
@@ -217,7 +219,8 @@ fn place_of(keys: &KeyList, key: Key) -> Result<usize, usize>
     Err(keys.len())
 }
 
-/// The keys that a request reads and the keys that it writes.
+/// The keys that a request declares that it reads, and those that it writes (Thomson et al. 2012, section 3.2: a
+/// transaction's read set and write set are known before it is ordered). A key may be in both.
 #[derive(Clone, Copy, Debug, PartialEq, Eq)]
 pub struct Sets {
     pub reads: KeySet,

@@ -23,3 +23,8 @@ pub use key_set::{KeySet, MOST_KEYS, Sets};
 pub use place::{Ballot, NodeId, Place, RequestId, Slot};
 pub use shared::Shared;
 pub use txn::Txn;
+
+#[cfg(test)]
+mod batch_tests;
+#[cfg(test)]
+mod tests;

@@ -1,13 +1,14 @@
 //! The names of requests, places, slots, ballots and nodes, each ordered by its fields in turn.
 
-/// A request of a client: the client, and the client's own number for it.
+/// The name of a request: its client, and the client's own number for it. New attempts at a request keep its name.
 #[derive(Clone, Copy, Debug, PartialEq, Eq, PartialOrd, Ord, Hash)]
 pub struct RequestId {
     pub client: u32,
     pub number: u32,
 }
 
-/// A place in the global order: the epoch, and the number among the epoch's merged requests, from 0.
+/// A place in the global order (Thomson et al. 2012, section 3.1): the epoch, and the number among the epoch's merged
+/// requests, from 0.
 #[derive(Clone, Copy, Debug, PartialEq, Eq, PartialOrd, Ord, Hash)]
 pub struct Place {
     pub epoch: u64,
@@ -22,14 +23,15 @@ pub struct Slot {
     pub group: u8,
 }
 
-/// A ballot of a synod ("Paxos Made Simple": a proposal number), compared by round first.
+/// A ballot of a synod, compared by round first. The replica that proposes it makes it its own ("Paxos Made Simple",
+/// section 2.2: a proposal number, of which no two proposers use the same).
 #[derive(Clone, Copy, Debug, PartialEq, Eq, PartialOrd, Ord, Hash)]
 pub struct Ballot {
     pub round: u32,
     pub replica: u8,
 }
 
-/// A node: one partition of one replica.
+/// A node: the machine that holds one partition of one replica (Thomson et al. 2012, section 3).
 #[derive(Clone, Copy, Debug, PartialEq, Eq, PartialOrd, Ord, Hash)]
 pub struct NodeId {
     pub replica: u8,

@@ -6,7 +6,8 @@ use crate::config::Config;
 use crate::key_set::Sets;
 use crate::place::RequestId;
 
-/// A request: its name, the number of the attempt (from 1), the application's arguments, and the declared sets.
+/// A request: its name, the number of the attempt (1 for the first), the application's arguments, and the declared
+/// sets. A new attempt is made where the declared sets turn out not to be those that the request needs.
 #[derive(Clone, Copy, Debug, PartialEq, Eq)]
 pub struct Txn<Args> {
     pub id: RequestId,
@@ -16,7 +17,7 @@ pub struct Txn<Args> {
 }
 
 impl<Args: Copy> Txn<Args> {
-    /// Whether a partition takes part: it stores a declared key.
+    /// Whether a partition takes part: it stores a declared key (Thomson et al. 2012, section 3.3: a participant).
     pub fn is_participant(&self, config: &Config, partition: u8) -> bool
         ensures { result ≡ has_local_key (site config.now.partitions partition) self.now }
     {
@@ -24,7 +25,7 @@ impl<Args: Copy> Txn<Args> {
             || self.sets.writes.has_local(config, partition)
     }
 
-    /// Whether a partition is the participant of least number.
+    /// Whether a partition is the participant of least number. A request that declares no key has none.
     pub fn is_least_participant(&self, config: &Config, partition: u8) -> bool
         ensures { result ≡ is_least (site config.now.partitions partition) self.now }
     {
@@ -34,7 +35,8 @@ impl<Args: Copy> Txn<Args> {
     }
 
     /// Whether a partition runs the request: it stores a key that is written, or is the least participant, so that a
-    /// request that only reads has an answerer.
+    /// request that only reads has one that answers it. All active partitions compute the same answer (Thomson et al.
+    /// 2012, section 3.3: active participants store a key of the write set, the others are passive).
     pub fn is_active(&self, config: &Config, partition: u8) -> bool
         ensures { result ≡ is_active (site config.now.partitions partition) self.now }
     {

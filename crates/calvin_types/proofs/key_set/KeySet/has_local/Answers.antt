@@ -1,7 +1,7 @@
 use Rattle.std.proofs.Common.{sym, ◌∙◌}
 use Rattle.std.proofs.lemmas.Bool.{eq-eqb, ne_eqb}
 use Rattle.calvin_types.specs.Participants.{site, is_local}
-use Rattle.calvin_types.proofs.Tests.{any_hit, any_next}
+use Rattle.calvin_types.proofs.ListTests.{any_hit, any_next}
 use Rattle.calvin_types.proofs.key_set.KeySet.has_local.Goals as goal
 
 pub returns-then-partition_of-partition : goal.returns-then-partition_of-partition

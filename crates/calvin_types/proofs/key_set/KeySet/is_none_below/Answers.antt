@@ -2,7 +2,7 @@ use Rattle.std.proofs.Common.{arith}
 use Rattle.std.specs.Prelude.{nat_le}
 use Rattle.calvin_types.specs.Keys.{partition_of}
 use Rattle.std.proofs.lemmas.Bool.{le-leb, lt-leb}
-use Rattle.calvin_types.proofs.Tests.{all_missed, all_next}
+use Rattle.calvin_types.proofs.ListTests.{all_missed, all_next}
 use Rattle.calvin_types.proofs.key_set.KeySet.is_none_below.Goals as goal
 
 pub returns-then-partition_of-partition : goal.returns-then-partition_of-partition

@@ -1,0 +1,230 @@
+//! Batches, short lists, faults and orders: each public call once.
+use crate::tests::{refusal, txn};
+use crate::{Ballot, Batch, Fault, Few, Key, NodeId, Place, RequestId, Shared, Slot, Txn};
+use std::alloc::Global;
+use std::cmp::Ordering;
+use std::sync::{Arc, Mutex, Wait};
+use std::test::Fail;
+use std::thread;
+use std::thread::Threads;
+
+/// Requests numbered from 0.
+fn requests(alloc: Global, count: u32) -> Result<Vec<Txn<u64>>, Fault> {
+    let mut txns = Vec::new(alloc);
+    for number in 0..count {
+        let id = RequestId { client: 7, number };
+        txns.push(Txn {
+            id,
+            ..txn(alloc, &[1], &[])?
+        })?;
+    }
+    Ok(txns)
+}
+
+/// A batch's size, and its request at a place, both ways.
+fn probed<Args: Copy + Eq>(batch: &Batch<Args>, i: usize) -> (usize, Option<Txn<Args>>, bool) {
+    let there = batch.get(i);
+    (
+        batch.len(),
+        there,
+        batch.as_slice().get(i).copied() == there,
+    )
+}
+
+/// A batch of so many requests.
+fn batch(alloc: Global, count: u32) -> Result<Batch<u64>, Fault> {
+    Batch::new(alloc, requests(alloc, count)?)
+}
+
+#[test]
+fn batches(rt: HostRuntime) {
+    for (count, want) in [(0, 0), (1, 0), (256, 0), (257, 5)] {
+        assert_eq!(rt;
+            refusal(&batch(rt.alloc(), count)),
+            want,
+            "{count} requests"
+        );
+    }
+}
+
+#[test]
+fn copies_of_a_batch(rt: HostRuntime) -> Result<(), Fail> {
+    let alloc = rt.alloc();
+    let first = batch(alloc, 256)?;
+    let copy = first.copy()?;
+    assert!(rt; copy == first);
+    assert!(rt; batch(alloc, 256)? == first);
+    assert!(rt; batch(alloc, 255)? != first);
+    drop(first);
+    let (size, there, alike) = probed(&copy, 255);
+    assert!(rt; size == 256 && alike);
+    assert_eq!(rt; there.map(|txn| txn.id.number), Some(255));
+    assert!(rt; probed(&copy, 256) == (256, None, true));
+    Ok(())
+}
+
+/// Threads share a list of batches under a lock, and one takes a batch with it.
+fn goes_along<R: Threads + Wait + Copy + Send + 'static>(
+    rt: R,
+    alloc: Global,
+    batch: Batch<u64>,
+) -> Result<usize, Fault> {
+    let mut packets = Vec::new(alloc);
+    packets.push(batch.copy()?)?;
+    let packets = Arc::new(alloc, Mutex::new(packets))?;
+    let theirs = Arc::try_clone(&packets)?;
+    let job = move || -> usize {
+        match theirs.lock(&rt).pop() {
+            Some(taken) => taken.len() + batch.len(),
+            None => 0,
+        }
+    };
+    match thread::spawn(&rt, job) {
+        Ok(handle) => Ok(handle.join(&rt)),
+        Err(_) => Err(Fault::OutOfMemory),
+    }
+}
+
+#[test]
+fn batches_cross_threads(rt: HostRuntime) -> Result<(), Fail> {
+    let alloc = rt.alloc();
+    let batch = Batch::new(alloc, requests(alloc, 100)?)?;
+    let kept = batch.copy()?;
+    assert!(rt; goes_along(rt, alloc, batch)? == 200);
+    assert!(rt; kept.len() == 100);
+    Ok(())
+}
+
+/// The first sixteen items.
+fn few<T: Copy>(items: &[T]) -> Few<T> {
+    let mut few = Few::new();
+    for &item in items {
+        if few.len() < 16 {
+            few.push(item);
+        }
+    }
+    few
+}
+
+#[test]
+fn few_items(rt: HostRuntime) -> Result<(), Fail> {
+    let mut items = few(&[1u8, 9]);
+    assert_eq!(rt; items.len(), 2);
+    items.insert(1, 4);
+    items.set(0, 3);
+    items.push(8);
+    for (i, want) in [
+        (0, Some(3)),
+        (1, Some(4)),
+        (2, Some(9)),
+        (3, Some(8)),
+        (4, None),
+    ] {
+        assert_eq!(rt; items.get(i), want);
+    }
+    assert!(rt; items == items.clone()?);
+    assert!(rt; items != few(&[3, 4, 9]));
+    Ok(())
+}
+
+#[test]
+fn shared_items(rt: HostRuntime) -> Result<(), Fail> {
+    let shared = Shared::new(rt.alloc(), [1u8, 2].to_vec(rt.alloc())?)?;
+    let other = shared.share()?;
+    assert!(rt; other == shared);
+    drop(shared);
+    assert_eq!(rt; other.as_slice(), [1, 2].as_slice());
+    Ok(())
+}
+
+#[test]
+fn faults(rt: HostRuntime) -> Result<(), Fail> {
+    for (fault, number, name) in [
+        (Fault::OutOfMemory, 1, "OutOfMemory"),
+        (Fault::TooManyKeys, 2, "TooManyKeys"),
+        (Fault::Repeated, 3, "Repeated"),
+        (Fault::BadConfig, 4, "BadConfig"),
+        (Fault::TooLong, 5, "TooLong"),
+        (Fault::NotComplete, 34, "NotComplete"),
+        (Fault::BadJson, 90, "BadJson"),
+        (Fault::BadScript, 91, "BadScript"),
+        (Fault::ScriptTooLong, 92, "ScriptTooLong"),
+        (Fault::ReadFailed, 95, "ReadFailed"),
+        (Fault::WriteFailed, 96, "WriteFailed"),
+    ] {
+        assert_eq!(rt; fault.number(), number);
+        assert_eq!(rt; fault.name(), name);
+        let shown = format!(in rt.alloc(); "{fault}")?;
+        assert_eq!(rt; shown.as_str(), name);
+    }
+    Ok(())
+}
+
+/// How two places, slots, ballots, nodes, names of requests and keys with these fields compare.
+fn compared(a: u8, b: u8, c: u8, d: u8) -> [Ordering; 6] {
+    [
+        Place {
+            epoch: a as u64,
+            n: b as u32,
+        }
+        .cmp(&Place {
+            epoch: c as u64,
+            n: d as u32,
+        }),
+        Slot {
+            epoch: a as u64,
+            group: b,
+        }
+        .cmp(&Slot {
+            epoch: c as u64,
+            group: d,
+        }),
+        Ballot {
+            round: a as u32,
+            replica: b,
+        }
+        .cmp(&Ballot {
+            round: c as u32,
+            replica: d,
+        }),
+        NodeId {
+            replica: a,
+            partition: b,
+        }
+        .cmp(&NodeId {
+            replica: c,
+            partition: d,
+        }),
+        RequestId {
+            client: a as u32,
+            number: b as u32,
+        }
+        .cmp(&RequestId {
+            client: c as u32,
+            number: d as u32,
+        }),
+        Key {
+            table: a,
+            id: b as u64,
+        }
+        .cmp(&Key {
+            table: c,
+            id: d as u64,
+        }),
+    ]
+}
+
+#[test]
+fn orders(rt: HostRuntime) {
+    // By the first field, and where these are equal by the second.
+    for (a, b, c, d, want) in [
+        (1, 5, 2, 0, Ordering::Less),
+        (2, 0, 1, 5, Ordering::Greater),
+        (1, 4, 1, 5, Ordering::Less),
+        (1, 5, 1, 4, Ordering::Greater),
+        (3, 3, 3, 3, Ordering::Equal),
+        (0, 255, 1, 0, Ordering::Less),
+    ] {
+        assert_eq!(rt; compared(a, b, c, d), [want; 6], "{a} {b} and {c} {d}");
+    }
+}

@@ -1,0 +1,366 @@
+//! The worked case `limits` of the sets, and each public call on keys, sets, configurations and participants once.
+use crate::{Config, Fault, Key, KeySet, RequestId, Sets, Txn};
+use std::alloc::{AllocError, Global};
+use std::test::Fail;
+
+/// The key of rank `rank`, of eight in each table.
+fn key(rank: u64) -> Key {
+    Key {
+        table: (rank / 8 % 32) as u8,
+        id: rank % 8,
+    }
+}
+
+/// A key of table 0.
+fn plain(id: u64) -> Key {
+    Key { table: 0, id }
+}
+
+/// The set of keys of table 0 with these numbers.
+fn plain_set(alloc: Global, ids: &[u64]) -> Result<KeySet, Fault> {
+    let mut keys = Vec::new(alloc);
+    for &id in ids {
+        keys.push(plain(id))?;
+    }
+    KeySet::from_slice(&keys)
+}
+
+/// The keys of rank `from` up to `to`, without the last.
+fn ranked(alloc: Global, from: u64, to: u64) -> Result<Vec<Key>, AllocError> {
+    let mut keys = Vec::new(alloc);
+    for rank in from..to {
+        keys.push(key(rank))?;
+    }
+    Ok(keys)
+}
+
+/// The number of a refusal, or 0 where the call is taken.
+pub(crate) fn refusal<T>(answer: &Result<T, Fault>) -> u8 {
+    match answer {
+        Ok(_) => 0,
+        Err(fault) => fault.number(),
+    }
+}
+
+/// The refusal of the first keys, so many, and of the very first so many times more.
+fn refused(alloc: Global, distinct: u64, again: u64) -> Result<u8, AllocError> {
+    let mut keys = ranked(alloc, 0, distinct)?;
+    for _i in 0..again {
+        keys.push(key(0))?;
+    }
+    Ok(refusal(&KeySet::from_slice(&keys)))
+}
+
+#[test]
+fn limits(rt: HostRuntime) -> Result<(), Fail> {
+    for (distinct, again, want) in [
+        (0, 0, 0),
+        (1, 0, 0),
+        (16, 0, 0),
+        (17, 0, 2),
+        (1, 1, 3),
+        (15, 1, 3),
+        (16, 1, 2),
+        (2, 15, 2),
+    ] {
+        assert_eq!(rt;
+            refused(rt.alloc(), distinct, again)?,
+            want,
+            "{distinct} and {again}"
+        );
+    }
+    Ok(())
+}
+
+#[test]
+fn any_order_is_taken(rt: HostRuntime) -> Result<(), Fail> {
+    let alloc = rt.alloc();
+    // The keys of rank 0, step, twice the step .. of sixteen: all of them, as the step is odd.
+    for step in [1, 5, 11, 15] {
+        let mut keys = Vec::new(alloc);
+        for i in 0..16u64 {
+            keys.push(key(i * step % 16))?;
+        }
+        let set = KeySet::from_slice(&keys)?;
+        assert_eq!(rt; set.len(), 16);
+        for i in 0..16 {
+            assert_eq!(rt; set.at(i), key(i as u64), "step {step}, place {i}");
+        }
+    }
+    Ok(())
+}
+
+#[test]
+fn keys_of_a_set(rt: HostRuntime) -> Result<(), Fail> {
+    let late = Key { table: 1, id: 1 };
+    let set = KeySet::from_slice(&[plain(8), late, plain(3)])?;
+    for (i, want) in [
+        (0, Some(plain(3))),
+        (1, Some(plain(8))),
+        (2, Some(late)),
+        (3, None),
+    ] {
+        assert_eq!(rt; set.get(i), want);
+    }
+    for (asked, want) in [
+        (plain(3), true),
+        (plain(8), true),
+        (late, true),
+        (plain(1), false),
+        (Key { table: 1, id: 8 }, false),
+    ] {
+        assert_eq!(rt; set.has(asked), want, "{asked:?}");
+    }
+    assert!(rt; !set.is_empty());
+    assert!(rt; KeySet::new().is_empty());
+    assert!(rt; KeySet::of(late) == KeySet::from_slice(&[late])?);
+    assert!(rt; KeySet::of(late) != set);
+    Ok(())
+}
+
+#[test]
+fn sets_grow_to_sixteen(rt: HostRuntime) -> Result<(), Fail> {
+    let alloc = rt.alloc();
+    let sixteen = KeySet::from_slice(&ranked(alloc, 0, 16)?)?;
+    let mut set = KeySet::new();
+    for i in 0..16u64 {
+        set.insert(key(i * 7 % 16))?;
+    }
+    assert!(rt; set == sixteen);
+    set.insert(key(5))?;
+    assert!(rt; set == sixteen, "one that is there");
+    assert_eq!(rt; set.insert(key(16)), Err(Fault::TooManyKeys));
+    assert!(rt; set == sixteen, "after the seventeenth");
+    Ok(())
+}
+
+/// The set of the keys of rank `from` up to `to`, without the last.
+fn ranked_set(alloc: Global, from: u64, to: u64) -> Result<KeySet, Fault> {
+    KeySet::from_slice(&ranked(alloc, from, to)?)
+}
+
+/// Whether the first keys, so many, and those of rank `from` up to `upto` are together the first `all`, either way
+/// round.
+fn union_is(alloc: Global, to: u64, from: u64, upto: u64, all: u64) -> Result<bool, Fault> {
+    let set = ranked_set(alloc, 0, to)?;
+    let more = ranked_set(alloc, from, upto)?;
+    let both = ranked_set(alloc, 0, all)?;
+    Ok(set.union(&more)? == both && more.union(&set)? == both)
+}
+
+#[test]
+fn unions(rt: HostRuntime) -> Result<(), Fail> {
+    for (to, from, upto, all, want) in [
+        (0, 0, 0, 0, Ok(true)),
+        (3, 0, 0, 3, Ok(true)),
+        (8, 8, 16, 16, Ok(true)),
+        (16, 4, 12, 16, Ok(true)),
+        (10, 5, 15, 15, Ok(true)),
+        (16, 16, 17, 16, Err(Fault::TooManyKeys)),
+        (9, 8, 17, 16, Err(Fault::TooManyKeys)),
+        (16, 16, 32, 16, Err(Fault::TooManyKeys)),
+    ] {
+        assert_eq!(rt;
+            union_is(rt.alloc(), to, from, upto, all),
+            want,
+            "{to} and {from} to {upto}"
+        );
+    }
+    Ok(())
+}
+
+#[test]
+fn parts(rt: HostRuntime) -> Result<(), Fail> {
+    let alloc = rt.alloc();
+    let set = plain_set(alloc, &[4, 5, 8, 9, 16, 47])?;
+    // The remainders by 3 are 1, 2, 2, 0, 1, 2; those by 16 are 4, 5, 8, 9, 0, 15.
+    for (partitions, partition, want, lower) in [
+        (1, 0, [4, 5, 8, 9, 16, 47].as_slice(), false),
+        (3, 0, [9].as_slice(), false),
+        (3, 1, [4, 16].as_slice(), true),
+        (3, 2, [5, 8, 47].as_slice(), true),
+        (3, 3, [].as_slice(), true),
+        (16, 0, [16].as_slice(), false),
+        (16, 1, [].as_slice(), true),
+        (16, 15, [47].as_slice(), true),
+    ] {
+        let config = Config::new(partitions, 1)?;
+        let part = set.part(&config, partition);
+        assert!(rt;
+            part == plain_set(alloc, want)?,
+            "{partition} of {partitions}"
+        );
+        assert_eq!(rt;
+            set.has_local(&config, partition),
+            !want.is_empty(),
+            "{partition} of {partitions}"
+        );
+        assert_eq!(rt;
+            set.is_none_below(&config, partition),
+            !lower,
+            "{partition} of {partitions}"
+        );
+    }
+    let config = Config::new(3, 1)?;
+    let late = plain_set(alloc, &[5, 4])?;
+    assert!(rt; late.is_none_below(&config, 1), "the least is partition 1");
+    assert!(rt; !late.is_none_below(&config, 2));
+    assert!(rt; KeySet::new().is_none_below(&config, 2));
+    Ok(())
+}
+
+#[test]
+fn keys_of_a_table(rt: HostRuntime) -> Result<(), Fail> {
+    let one = Key { table: 1, id: 1 };
+    let two = Key { table: 1, id: 2 };
+    let set = KeySet::from_slice(&[plain(1), two, Key { table: 2, id: 0 }, one])?;
+    assert!(rt; set.of_table(0) == KeySet::of(plain(1)));
+    assert!(rt; set.of_table(1) == KeySet::from_slice(&[one, two])?);
+    assert!(rt; set.of_table(3).is_empty());
+    Ok(())
+}
+
+#[test]
+fn configurations(rt: HostRuntime) -> Result<(), Fail> {
+    for (partitions, replicas, want) in [
+        (1, 1, 0),
+        (16, 7, 0),
+        (0, 1, 4),
+        (1, 0, 4),
+        (17, 1, 4),
+        (1, 8, 4),
+        (0, 0, 4),
+        (255, 255, 4),
+    ] {
+        let config = Config::new(partitions, replicas);
+        assert_eq!(rt;
+            refusal(&config),
+            want,
+            "{partitions} partitions and {replicas} replicas"
+        );
+    }
+    Ok(())
+}
+
+#[test]
+fn partitions_of_keys(rt: HostRuntime) -> Result<(), Fail> {
+    for (partitions, key, want) in [
+        (1, plain(9), 0),
+        (3, plain(7), 1),
+        (3, Key { table: 200, id: 7 }, 1),
+        (16, plain(15), 15),
+        (16, plain(16), 0),
+        (16, plain(u64::MAX), 15),
+    ] {
+        let config = Config::new(partitions, 2)?;
+        assert_eq!(rt; config.partition_of(&key), want, "{key:?} of {partitions}");
+    }
+    Ok(())
+}
+
+/// A request that reads and writes keys of table 0.
+pub(crate) fn txn(alloc: Global, reads: &[u64], writes: &[u64]) -> Result<Txn<u64>, Fault> {
+    Ok(Txn {
+        id: RequestId {
+            client: 7,
+            number: 1,
+        },
+        attempt: 1,
+        args: 5,
+        sets: Sets {
+            reads: plain_set(alloc, reads)?,
+            writes: plain_set(alloc, writes)?,
+        },
+    })
+}
+
+/// What a partition is to a request.
+#[derive(Clone, Copy, Debug, PartialEq, Eq)]
+enum Role {
+    /// No participant.
+    Absent,
+    /// A participant that isn't active.
+    Passive,
+    /// An active participant, not the least one.
+    Active,
+    /// The least participant, which is active.
+    Least,
+    /// None of these, which is wrong.
+    Mixed,
+}
+
+/// The role of one of four partitions.
+fn role_of(txn: &Txn<u64>, config: &Config, partition: u8) -> Role {
+    match (
+        txn.is_participant(config, partition),
+        txn.is_active(config, partition),
+        txn.is_least_participant(config, partition),
+    ) {
+        (false, false, false) => Role::Absent,
+        (true, false, false) => Role::Passive,
+        (true, true, false) => Role::Active,
+        (true, true, true) => Role::Least,
+        _ => Role::Mixed,
+    }
+}
+
+/// The roles of four partitions in a request that reads and writes these keys.
+fn roles(alloc: Global, reads: &[u64], writes: &[u64]) -> Result<[Role; 4], Fault> {
+    let config = Config::new(4, 1)?;
+    let txn = txn(alloc, reads, writes)?;
+    Ok([
+        role_of(&txn, &config, 0),
+        role_of(&txn, &config, 1),
+        role_of(&txn, &config, 2),
+        role_of(&txn, &config, 3),
+    ])
+}
+
+#[test]
+fn participants(rt: HostRuntime) -> Result<(), Fail> {
+    for (reads, writes, want) in [
+        // It only reads.
+        (
+            [9, 2].as_slice(),
+            [].as_slice(),
+            [Role::Absent, Role::Least, Role::Passive, Role::Absent],
+        ),
+        // It writes above the least partition, with and without reading in a third one.
+        (
+            &[0, 7],
+            &[7],
+            [Role::Least, Role::Absent, Role::Absent, Role::Active],
+        ),
+        (
+            &[1, 2, 3],
+            &[3],
+            [Role::Absent, Role::Least, Role::Passive, Role::Active],
+        ),
+        // It has a single key.
+        (
+            &[],
+            &[6],
+            [Role::Absent, Role::Absent, Role::Least, Role::Absent],
+        ),
+        (
+            &[6],
+            &[6],
+            [Role::Absent, Role::Absent, Role::Least, Role::Absent],
+        ),
+        // It writes in the least partition and reads above.
+        (
+            &[3],
+            &[4],
+            [Role::Least, Role::Absent, Role::Absent, Role::Passive],
+        ),
+        // It declares nothing.
+        (&[], &[], [Role::Absent; 4]),
+    ] {
+        assert_eq!(rt;
+            roles(rt.alloc(), reads, writes)?,
+            want,
+            "{reads:?} {writes:?}"
+        );
+    }
+    Ok(())
+}
