@@ -1,7 +1,7 @@
 -- Requests as they are written.
 --     txn grammar d      `{"client":C,"number":N,"op":OP}`, with optional `"attempt":A` and `"reads":[KEY, ..],"writes":[KEY, ..]`
 use Rattle.std.specs.Prelude.{ℕ, ◌^◌, ◌&&◌, ◌==◌, List, [], ◌∷◌, length, Bool, not, Option, Some, None, option_and_then, codes}
-use Rattle.serde_json.specs.Data.{Data}
+use Rattle.serde_json.specs.Data.{Data, object, no_members, member}
 use Rattle.serde_json.specs.Find.{get}
 use Rattle.calvin_types.specs.declared.key_set.Sets.{Sets}
 use Rattle.calvin_types.specs.declared.place.RequestId.{RequestId}
@@ -11,11 +11,11 @@ use Rattle.calvin_script.specs.KeyLists.{key, key_set}
 use Rattle.calvin_script.specs.Grammar.{Grammar}
 
 -- the client, and the client's own number for the request
-unfoldable pub id_of : Data → Option RequestId
-id_of d = do
-  client ← option_and_then (below (2 ^ 32)) (get (codes "client") d)
-  own_number ← option_and_then (below (2 ^ 32)) (get (codes "number") d)
-  Some (record { client = client; number = own_number })
+unfoldable pub id_of : Data → Data → Option RequestId
+id_of client own_number = do
+  c ← below (2 ^ 32) client
+  n ← below (2 ^ 32) own_number
+  Some (record { client = c; number = n })
 
 -- the sets that are declared, both or neither; where none are, the first ones, those on the empty view
 unfoldable pub sets_or : Sets → Option Data → Option Data → Option Sets
@@ -34,14 +34,22 @@ has_key sets = not ((length sets.reads == 0) && (length sets.writes == 0))
 abbrev pub txn_names : List (List ℕ)
 txn_names = codes "client" ∷ codes "number" ∷ codes "op" ∷ codes "attempt" ∷ codes "reads" ∷ codes "writes" ∷ []
 
--- a request, with the members that may be left out
-unfoldable pub txn_with : {Args : Type 0} → Grammar Args → Data → Option Data → Option Data → Option Data → Option (Txn Args)
-txn_with grammar d attempt reads writes = do
-  id ← id_of d
-  args ← option_and_then grammar.operation (get (codes "op") d)
+-- a request from its members, of which some may be left out
+unfoldable pub txn_with : {Args : Type 0} → Grammar Args → Data → Data → Data → Option Data → Option Data → Option Data → Option (Txn Args)
+txn_with grammar client own_number op attempt reads writes = do
+  id ← id_of client own_number
+  args ← grammar.operation op
   attempt_number ← optional 1 (between 1 8) attempt
   sets ← sets_or (grammar.first_needs args) reads writes
   only_if (has_key sets) (Some (record { id = id; attempt = attempt_number; args = args; sets = sets }))
 
 unfoldable pub txn : {Args : Type 0} → Grammar Args → Data → Option (Txn Args)
-txn grammar d = only_if (has_only txn_names d) (txn_with grammar d (get (codes "attempt") d) (get (codes "reads") d) (get (codes "writes") d))
+txn grammar d = only_if (has_only txn_names d) (do
+  client ← get (codes "client") d
+  own_number ← get (codes "number") d
+  op ← get (codes "op") d
+  txn_with grammar client own_number op (get (codes "attempt") d) (get (codes "reads") d) (get (codes "writes") d))
+
+-- an object that has these members and no others
+abbrev pub with_these_alone : Data → Data → Data → Data
+with_these_alone client own_number op = object (member (codes "client") client (member (codes "number") own_number (member (codes "op") op no_members)))

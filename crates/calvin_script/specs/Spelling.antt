@@ -5,7 +5,7 @@
 --     between least most d      the whole number d, which is from the least to the most
 --     list f d      what f gives of each item of the list d
 --     optional default f member      what f gives of a member, and the default where the member is left out
-use Rattle.std.specs.Prelude.{ℕ, ◌&&◌, List, [], ◌∷◌, Bool, true, false, nat_lt, nat_le, if◌then◌else◌, Option, Some, None, option_and_then, bytes_eq}
+use Rattle.std.specs.Prelude.{ℕ, ◌&&◌, List, [], ◌∷◌, ◌++◌, Bool, true, false, nat_lt, nat_le, if◌then◌else◌, Option, Some, None, option_and_then, option_map, bytes_eq}
 use Rattle.std.specs.List.{list_any}
 use Rattle.serde_json.specs.Data.{Data, null, boolean, number, string, array, object, Items, no_items, item, Members, no_members, member}
 use Rattle.serde_json.specs.Find.{as_number, as_u64, as_array}
@@ -51,6 +51,10 @@ each f (item d ds) = do
   x ← f d
   xs ← each f ds
   Some (x ∷ xs)
+
+-- a list, and then what is spelled
+abbrev pub then_one : {A : Type 0} → List A → Option A → Option (List A)
+then_one xs spelled = option_map (λ x. xs ++ x ∷ []) spelled
 
 abbrev pub list : {A : Type 0} → (Data → Option A) → Data → Option (List A)
 list f d = option_and_then (each f) (as_array d)

@@ -7,6 +7,7 @@ mod fields;
 mod key_list;
 mod kv;
 mod list;
+mod members;
 mod operation;
 mod reading;
 mod request;

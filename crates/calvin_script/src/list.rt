@@ -2,7 +2,7 @@
 ghost use Rattle.std.specs.Prelude.{◌≡◌, Option, map};
 ghost use Rattle.serde_json.specs.Data.{Data};
 ghost use Rattle.serde_json.specs.View.{view};
-ghost use Rattle.calvin_script.specs.Spelling.{list};
+ghost use Rattle.calvin_script.specs.Spelling.{list, then_one};
 ghost use Rattle.calvin_script.specs.Gives.{Gives};
 
 use serde_json::Value;
@@ -46,20 +46,24 @@ pub(crate) trait Spelled: Drop {
     /// What a piece of JSON spells.
     ghost spelled: { Data → Option Meaning };
 
-    fn from_json(alloc: Global, value: &Value) -> Result<Self, ScriptError>
-        ensures { Gives meaning result (spelled (view value.now)) };
+    /// Puts what a piece of JSON spells at the end of a list. The JSON is given back as it is read, so that its memory
+    /// serves what is found.
+    fn push_json(alloc: Global, value: Value, found: &mut Vec<Self>) -> Result<(), ScriptError>
+        ensures { Gives (λ _. map meaning found.new.items) result
+            (then_one (map meaning found.old.items) (spelled (view value))) };
 }
 
 /// The list that a piece of JSON spells.
-pub(crate) fn list_of<T: Spelled>(alloc: Global, value: &Value) -> Result<Vec<T>, ScriptError>
-    ensures { Gives (λ v. map T.meaning v.items) result (list T.spelled (view value.now)) }
+pub(crate) fn list_of<T: Spelled>(alloc: Global, value: Value) -> Result<Vec<T>, ScriptError>
+    ensures { Gives (λ v. map T.meaning v.items) result (list T.spelled (view value)) }
 {
-    let items = value.as_array().ok_or(ScriptError::BadScript)?;
+    let Value::Array(items) = value else {
+        return Err(ScriptError::BadScript);
+    };
     let mut found = Vec::with_capacity(alloc, items.len().min(MOST_AT_ONCE))?;
     for item in items {
-        match T::from_json(alloc, item) {
-            Ok(one) => found.push(one)?,
-            Err(error) => return Err(error),
+        if let Err(error) = T::push_json(alloc, item, &mut found) {
+            return Err(error);
         }
     }
     Ok(found)

@@ -31,7 +31,7 @@ pub fn script_from<Op: Operation>(alloc: Global, bytes: &[u8]) -> Result<Script<
     ensures { Reads contents result (script_from Op.grammar bytes.now) }
 {
     let value = json_of(alloc, bytes)?;
-    match script_of(alloc, &value) {
+    match script_of(alloc, value) {
         Ok(script) => Ok(script),
         Err(ScriptError::OutOfMemory) => Err(Fault::OutOfMemory),
         Err(ScriptError::BadScript) => Err(Fault::BadScript),

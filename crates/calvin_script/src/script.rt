@@ -23,19 +23,24 @@ impl<Op: Operation> Spelled for GroupBatch<Op> {
     ghost spelled = { batch Op.grammar };
 
     #[tactic(auto, unfolding(crate::specs::Scripts::batch))]
-    fn from_json(alloc: Global, value: &Value) -> Result<GroupBatch<Op>, ScriptError> {
-        if !has_only(value, &["group", "txns"]) {
+    fn push_json(
+        alloc: Global,
+        mut value: Value,
+        found: &mut Vec<GroupBatch<Op>>,
+    ) -> Result<(), ScriptError> {
+        if !has_only(&value, &["group", "txns"]) {
             return Err(ScriptError::BadScript);
         }
         let group = value.get("group").ok_or(ScriptError::BadScript)?;
         let group = u8_of(group).ok_or(ScriptError::BadScript)?;
-        let txns = value.get("txns").ok_or(ScriptError::BadScript)?;
+        let txns = value.get_mut("txns").ok_or(ScriptError::BadScript)?.take();
         let txns = list_of(alloc, txns)?;
         match Batch::new(alloc, txns) {
-            Ok(batch) => Ok(GroupBatch { group, batch }),
-            Err(Fault::TooLong) => Err(ScriptError::BadScript),
-            Err(_) => Err(ScriptError::OutOfMemory),
+            Ok(batch) => found.push(GroupBatch { group, batch })?,
+            Err(Fault::TooLong) => return Err(ScriptError::BadScript),
+            Err(_) => return Err(ScriptError::OutOfMemory),
         }
+        Ok(())
     }
 }
 
@@ -50,9 +55,14 @@ impl<Op: Operation> Spelled for Epoch<Op> {
 
     ghost spelled = { list (batch Op.grammar) };
 
-    fn from_json(alloc: Global, value: &Value) -> Result<Epoch<Op>, ScriptError> {
+    fn push_json(
+        alloc: Global,
+        value: Value,
+        found: &mut Vec<Epoch<Op>>,
+    ) -> Result<(), ScriptError> {
         let batches = list_of(alloc, value)?;
-        Ok(Epoch { batches })
+        found.push(Epoch { batches })?;
+        Ok(())
     }
 }
 
@@ -94,11 +104,11 @@ fn all_groups_fit<Args>(partitions: u8, epochs: &[Epoch<Args>]) -> bool
 #[tactic(auto, unfolding(crate::specs::Scripts::script))]
 pub(crate) fn script_of<Op: Operation>(
     alloc: Global,
-    value: &Value,
+    mut value: Value,
 ) -> Result<Script<Op>, ScriptError>
-    ensures { Gives contents result (script Op.grammar (view value.now)) }
+    ensures { Gives contents result (script Op.grammar (view value)) }
 {
-    if !has_only(value, &["partitions", "app", "epochs"]) {
+    if !has_only(&value, &["partitions", "app", "epochs"]) {
         return Err(ScriptError::BadScript);
     }
     let partitions = value.get("partitions").ok_or(ScriptError::BadScript)?;
@@ -108,7 +118,7 @@ pub(crate) fn script_of<Op: Operation>(
     if app != Op::app_name() {
         return Err(ScriptError::BadScript);
     }
-    let epochs = value.get("epochs").ok_or(ScriptError::BadScript)?;
+    let epochs = value.get_mut("epochs").ok_or(ScriptError::BadScript)?.take();
     let epochs = list_of(alloc, epochs)?;
     if !all_groups_fit(partitions, &epochs) {
         return Err(ScriptError::BadScript);
