@@ -1,8 +1,9 @@
 //! Numbers by key: they are put, read and added to.
-ghost use Rattle.std.specs.Prelude.{◌≡◌, false, map};
+ghost use Rattle.std.specs.Prelude.{◌≡◌, ℕ, false, map};
 ghost use Rattle.std.specs.FinMap as finmap;
 ghost use Rattle.std.proofs.Common.{lit<};
 ghost use Rattle.calvin_app.specs.KvExact.{requests_exact, numbers_exact, replies_exact};
+ghost use Rattle.calvin_app.specs.Rows.{Rows};
 ghost use Rattle.calvin_app.specs.Kv.{kv, kv_lawful, asked};
 
 use crate::app::App;
@@ -20,6 +21,29 @@ pub enum KvRequest {
     /// The number under the first grows by the second, and none counts as 0; answered `Value` or `Limit`. It reads and
     /// writes the key.
     Add(u64, u64),
+}
+
+impl KvRequest {
+    /// The keys that the request reads and writes, whatever the rows are.
+    #[inline(always)]
+    pub fn needs(&self) -> Sets
+        ensures { (rows : Rows ℕ) → result ≡ kv.needs self.now rows }
+    {
+        match self {
+            KvRequest::Put(id, _) => Sets {
+                reads: KeySet::new(),
+                writes: KeySet::of(key_of(*id)),
+            },
+            KvRequest::Get(keys) => Sets {
+                reads: asked(keys),
+                writes: KeySet::new(),
+            },
+            KvRequest::Add(id, _) => Sets {
+                reads: KeySet::of(key_of(*id)),
+                writes: KeySet::of(key_of(*id)),
+            },
+        }
+    }
 }
 
 /// What is told of numbers by key.
@@ -92,33 +116,20 @@ impl App for Kv {
     }
 
     fn sets(&self, args: &KvRequest, _view: &View<u64>) -> Sets {
-        match *args {
-            KvRequest::Put(id, _) => Sets {
-                reads: KeySet::new(),
-                writes: KeySet::of(key_of(id)),
-            },
-            KvRequest::Get(keys) => Sets {
-                reads: asked(&keys),
-                writes: KeySet::new(),
-            },
-            KvRequest::Add(id, _) => Sets {
-                reads: KeySet::of(key_of(id)),
-                writes: KeySet::of(key_of(id)),
-            },
-        }
+        args.needs()
     }
 
     fn run(&self, args: &KvRequest, view: &View<u64>) -> (KvReply, Writes<u64>) {
-        match *args {
-            KvRequest::Put(id, value) => (KvReply::Done, Writes::of(key_of(id), value)),
+        match args {
+            KvRequest::Put(id, value) => (KvReply::Done, Writes::of(key_of(*id), *value)),
             KvRequest::Get(keys) => {
-                let values = values_of(&asked(&keys), view);
+                let values = values_of(&asked(keys), view);
                 (KvReply::Values(values), Writes::new())
             }
             KvRequest::Add(id, amount) => {
-                let before = view.get(&key_of(id)).unwrap_or(0);
-                match before.checked_add(amount) {
-                    Some(sum) => (KvReply::Value(sum), Writes::of(key_of(id), sum)),
+                let before = view.get(&key_of(*id)).unwrap_or(0);
+                match before.checked_add(*amount) {
+                    Some(sum) => (KvReply::Value(sum), Writes::of(key_of(*id), sum)),
                     None => (KvReply::Limit, Writes::new()),
                 }
             }

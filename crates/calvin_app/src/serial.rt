@@ -8,6 +8,7 @@ ghost use Rattle.calvin_app.specs.Serial.{answer_one, after_one, serial};
 use crate::answer::Answer;
 use crate::app::App;
 use crate::table::Table;
+use crate::view::View;
 use calvin_types::{Fault, Txn};
 use std::alloc::Global;
 use std::marker::Model;
@@ -61,7 +62,8 @@ impl<A: App> Serial<A> {
         ensures fresh { A.meaning.needs txn.now.args self.old ≡ txn.now.sets → result ≢ Ok Changed }
         ensures only { IsOkUnless result Fault.OutOfMemory }
     {
-        let view = self.rows.view_of(&txn.sets.reads);
+        let mut view = View::new();
+        self.rows.look_up(&txn.sets.reads, &mut view);
         if self.app.sets(&txn.args, &view) != txn.sets {
             return Ok(Answer::Changed);
         }

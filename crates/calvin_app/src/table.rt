@@ -45,19 +45,18 @@ impl<Row: Copy> Table<Row> {
         self.rows.get(key).copied()
     }
 
-    /// The rows of some keys; those that have none are left out.
-    pub fn view_of(&self, keys: &KeySet) -> View<Row>
-        ensures { result ≡ view self.now keys.now }
+    /// Puts the rows of some keys into a view that has none yet; keys without a row are left out.
+    pub fn look_up(&self, keys: &KeySet, seen: &mut View<Row>)
+        requires { seen.old ≡ map.empty }
+        ensures { seen.new ≡ view self.now keys.now }
     {
-        let mut view = View::new();
         for i in 0..keys.len() {
             let key = keys.at(i);
             match self.get(&key) {
-                Some(row) => view.put(key, row),
+                Some(row) => seen.put(key, row),
                 None => {}
             }
         }
-        view
     }
 
     /// Overwrites rows, all of them or none: refused for want of memory before the first is written.

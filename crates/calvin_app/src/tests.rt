@@ -258,7 +258,8 @@ fn tables(rt: HostRuntime) -> Result<(), Fail> {
     writes.put(key(1), 10)?;
     writes.put(other, 15)?;
     table.overwrite(&writes)?;
-    let view = table.view_of(&set(&[5, 7])?);
+    let mut view = View::new();
+    table.look_up(&set(&[5, 7])?, &mut view);
     for (key, row, seen) in [
         (key(5), Some(50), Some(50)),
         (key(7), None, None),
@@ -275,7 +276,8 @@ fn tables(rt: HostRuntime) -> Result<(), Fail> {
 fn views(rt: HostRuntime) -> Result<(), Fail> {
     let mut table = Table::new(rt.alloc());
     table.overwrite(&Writes::of(key(5), 4))?;
-    let view = table.view_of(&set(&[3, 5])?);
+    let mut view = View::new();
+    table.look_up(&set(&[3, 5])?, &mut view);
     assert_eq!(rt; view.clone()?.get(&key(5)), Some(4));
     assert_eq!(rt; view.get(&key(3)), None);
     let none: View<u64> = View::new();

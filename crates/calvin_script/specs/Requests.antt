@@ -17,15 +17,19 @@ id_of client own_number = do
   n ← below (2 ^ 32) own_number
   Some (record { client = c; number = n })
 
--- the sets that are declared, both or neither; where none are, the first ones, those on the empty view
+-- the sets that are declared
+abbrev pub declared : Data → Data → Option Sets
+declared reads writes = do
+  read_keys ← key_set key reads
+  written_keys ← key_set key writes
+  Some (record { reads = read_keys; writes = written_keys })
+
+-- the declared sets, both or neither; where none are, the first ones, those on the empty view
 unfoldable pub sets_or : Sets → Option Data → Option Data → Option Sets
 sets_or first None None = Some first
 sets_or first None (Some writes) = None
 sets_or first (Some reads) None = None
-sets_or first (Some reads) (Some writes) = do
-  read_keys ← key_set key reads
-  written_keys ← key_set key writes
-  Some (record { reads = read_keys; writes = written_keys })
+sets_or first (Some reads) (Some writes) = declared reads writes
 
 -- a request reads or writes something
 abbrev pub has_key : Sets → Bool
@@ -34,21 +38,21 @@ has_key sets = not ((length sets.reads == 0) && (length sets.writes == 0))
 abbrev pub txn_names : List (List ℕ)
 txn_names = codes "client" ∷ codes "number" ∷ codes "op" ∷ codes "attempt" ∷ codes "reads" ∷ codes "writes" ∷ []
 
--- a request from its members, of which some may be left out
-unfoldable pub txn_with : {Args : Type 0} → Grammar Args → Data → Data → Data → Option Data → Option Data → Option Data → Option (Txn Args)
-txn_with grammar client own_number op attempt reads writes = do
+-- a request from the members that every one has, its attempt, and the sets that may be declared
+unfoldable pub txn_of : {Args : Type 0} → Grammar Args → Data → Data → Data → ℕ → Option Data → Option Data → Option (Txn Args)
+txn_of grammar client own_number op attempt reads writes = do
   id ← id_of client own_number
   args ← grammar.operation op
-  attempt_number ← optional 1 (between 1 8) attempt
   sets ← sets_or (grammar.first_needs args) reads writes
-  only_if (has_key sets) (Some (record { id = id; attempt = attempt_number; args = args; sets = sets }))
+  only_if (has_key sets) (Some (record { id = id; attempt = attempt; args = args; sets = sets }))
 
 unfoldable pub txn : {Args : Type 0} → Grammar Args → Data → Option (Txn Args)
 txn grammar d = only_if (has_only txn_names d) (do
   client ← get (codes "client") d
   own_number ← get (codes "number") d
   op ← get (codes "op") d
-  txn_with grammar client own_number op (get (codes "attempt") d) (get (codes "reads") d) (get (codes "writes") d))
+  attempt ← optional 1 (between 1 8) (get (codes "attempt") d)
+  txn_of grammar client own_number op attempt (get (codes "reads") d) (get (codes "writes") d))
 
 -- an object that has these members and no others
 abbrev pub with_these_alone : Data → Data → Data → Data

@@ -6,7 +6,7 @@ ghost use Rattle.calvin_script.specs.KvOperations.{put, get_of, add};
 use crate::fields::u64_of;
 use crate::key_list::{KeyForm, key_set_of};
 use crate::operation::Operation;
-use calvin_app::{App, Kv, KvRequest, View};
+use calvin_app::KvRequest;
 use calvin_types::{Key, Sets};
 use serde_json::Value;
 
@@ -68,6 +68,7 @@ impl Operation for KvRequest {
         "kv"
     }
 
+    #[inline(always)]
     #[tactic(auto, unfolding(crate::specs::KvOperations::kv_operation))]
     fn from_json(value: &Value) -> Option<KvRequest> {
         let name = value.get(0)?.as_str()?;
@@ -82,7 +83,8 @@ impl Operation for KvRequest {
         }
     }
 
+    #[inline(always)]
     fn first_sets(&self) -> Sets {
-        Kv.sets(self, &View::new())
+        self.needs()
     }
 }

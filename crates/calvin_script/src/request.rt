@@ -1,9 +1,9 @@
 //! Requests.
-ghost use Rattle.std.specs.Prelude.{◌≡◌, option_map};
+ghost use Rattle.std.specs.Prelude.{◌≡◌, Some, None, option_map};
 ghost use Rattle.serde_json.specs.View.{view};
-ghost use Rattle.calvin_script.specs.Requests.{id_of, sets_or, txn_with};
+ghost use Rattle.calvin_script.specs.Requests.{id_of, declared, txn_of};
 ghost use Rattle.calvin_script.specs.Gives.{Gives};
-ghost use Rattle.calvin_script.specs.Spelling.{then_one};
+ghost use Rattle.calvin_script.specs.Spelling.{between, optional, then_one};
 
 use crate::fields::{between, has_only, u32_of};
 use crate::key_list::{WholeKey, key_set_of};
@@ -23,45 +23,60 @@ fn id_of(client: &Value, number: &Value) -> Option<RequestId>
     Some(RequestId { client, number })
 }
 
-/// The sets that are declared, or those of the arguments on the empty view.
-#[tactic(auto, unfolding(crate::specs::Requests::sets_or))]
-fn sets_of<Op: Operation>(args: &Op, reads: Option<&Value>, writes: Option<&Value>) -> Option<Sets>
-    ensures { result ≡ sets_or (Op.grammar.first_needs args.now)
-        (option_map (λ v. view v.now) reads.entry) (option_map (λ v. view v.now) writes.entry) }
+/// The sets that are declared.
+fn declared_sets(reads: &Value, writes: &Value) -> Option<Sets>
+    ensures { result ≡ declared (view reads.now) (view writes.now) }
 {
-    match (reads, writes) {
-        (None, None) => Some(args.first_sets()),
-        (Some(reads), Some(writes)) => {
-            let reads = key_set_of::<WholeKey>(reads)?;
-            let writes = key_set_of::<WholeKey>(writes)?;
-            Some(Sets { reads, writes })
-        }
-        _ => None,
-    }
+    let reads = key_set_of::<WholeKey>(reads)?;
+    let writes = key_set_of::<WholeKey>(writes)?;
+    Some(Sets { reads, writes })
 }
 
-/// Puts the request that members spell at the end of a list.
-#[tactic(auto, unfolding(crate::specs::Requests::txn_with))]
-fn push_request<Op: Operation>(
+/// Puts the request that members spell at the end of a list, with the sets that its arguments need where no row is known.
+#[tactic(auto, unfolding(crate::specs::Requests::txn_of, crate::specs::Requests::sets_or))]
+fn push_undeclared<Op: Operation>(
     needed: Needed<'_>,
-    attempt: Option<&Value>,
-    reads: Option<&Value>,
-    writes: Option<&Value>,
+    attempt: u8,
     found: &mut Vec<Txn<Op>>,
 ) -> Result<(), ScriptError>
-    ensures { Gives (λ _. found.new.items) result (then_one found.old.items (txn_with Op.grammar
-        (view needed.entry.client.now) (view needed.entry.number.now) (view needed.entry.op.now) (option_map (λ v. view v.now) attempt.entry)
-        (option_map (λ v. view v.now) reads.entry) (option_map (λ v. view v.now) writes.entry))) }
+    ensures { Gives (λ _. found.new.items) result (then_one found.old.items (txn_of Op.grammar
+        (view needed.entry.client.now) (view needed.entry.number.now) (view needed.entry.op.now) attempt None None)) }
 {
     let id = id_of(needed.client, needed.number).ok_or(ScriptError::BadScript)?;
     let Some(args) = Op::from_json(needed.op) else {
         return Err(ScriptError::BadScript);
     };
-    let attempt = match attempt {
-        None => 1,
-        Some(attempt) => between(1, 8, attempt).ok_or(ScriptError::BadScript)?,
+    let sets = args.first_sets();
+    if sets.reads.len() == 0 && sets.writes.len() == 0 {
+        return Err(ScriptError::BadScript);
+    }
+    found.push(Txn {
+        id,
+        attempt,
+        args,
+        sets,
+    })?;
+    Ok(())
+}
+
+/// Puts the request that members spell at the end of a list, with the sets that it declares.
+#[tactic(auto, unfolding(crate::specs::Requests::txn_of, crate::specs::Requests::sets_or))]
+fn push_declared<Op: Operation>(
+    needed: Needed<'_>,
+    attempt: u8,
+    reads: &Value,
+    writes: &Value,
+    found: &mut Vec<Txn<Op>>,
+) -> Result<(), ScriptError>
+    ensures { Gives (λ _. found.new.items) result (then_one found.old.items (txn_of Op.grammar
+        (view needed.entry.client.now) (view needed.entry.number.now) (view needed.entry.op.now) attempt (Some (view reads.now))
+        (Some (view writes.now)))) }
+{
+    let id = id_of(needed.client, needed.number).ok_or(ScriptError::BadScript)?;
+    let Some(args) = Op::from_json(needed.op) else {
+        return Err(ScriptError::BadScript);
     };
-    let Some(sets) = sets_of(&args, reads, writes) else {
+    let Some(sets) = declared_sets(reads, writes) else {
         return Err(ScriptError::BadScript);
     };
     if sets.reads.len() == 0 && sets.writes.len() == 0 {
@@ -76,6 +91,16 @@ fn push_request<Op: Operation>(
     Ok(())
 }
 
+/// The number of the attempt: 1 where none is given.
+fn attempt_of(attempt: Option<&Value>) -> Option<u8>
+    ensures { result ≡ optional 1 (between 1 8) (option_map (λ v. view v.now) attempt.entry) }
+{
+    match attempt {
+        None => Some(1),
+        Some(attempt) => between(1, 8, attempt),
+    }
+}
+
 impl<Op: Operation> Spelled for Txn<Op> {
     ghost use Rattle.calvin_types.specs.declared.txn.Txn.{Txn};
     ghost use Rattle.calvin_script.specs.Requests.{txn};
@@ -86,14 +111,14 @@ impl<Op: Operation> Spelled for Txn<Op> {
 
     ghost spelled = { txn Op.grammar };
 
-    #[tactic(auto, unfolding(crate::specs::Requests::txn), using(crate::proofs::Names::short_txn))]
+    #[tactic(auto, unfolding(crate::specs::Requests::txn), using(crate::proofs::Names::short_txn, crate::proofs::Names::no_writes, crate::proofs::Names::no_reads))]
     fn push_json(
         _alloc: Global,
         value: Value,
         found: &mut Vec<Txn<Op>>,
     ) -> Result<(), ScriptError> {
         if let Some(needed) = needed_alone(&value) {
-            return push_request(needed, None, None, None, found);
+            return push_undeclared(needed, 1, found);
         }
         if !has_only(
             &value,
@@ -104,12 +129,12 @@ impl<Op: Operation> Spelled for Txn<Op> {
         let client = value.get("client").ok_or(ScriptError::BadScript)?;
         let number = value.get("number").ok_or(ScriptError::BadScript)?;
         let op = value.get("op").ok_or(ScriptError::BadScript)?;
-        push_request(
-            Needed { client, number, op },
-            value.get("attempt"),
-            value.get("reads"),
-            value.get("writes"),
-            found,
-        )
+        let needed = Needed { client, number, op };
+        let attempt = attempt_of(value.get("attempt")).ok_or(ScriptError::BadScript)?;
+        match (value.get("reads"), value.get("writes")) {
+            (None, None) => push_undeclared(needed, attempt, found),
+            (Some(reads), Some(writes)) => push_declared(needed, attempt, reads, writes, found),
+            _ => Err(ScriptError::BadScript),
+        }
     }
 }

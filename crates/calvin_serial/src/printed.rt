@@ -19,6 +19,10 @@ pub(crate) trait Printed {
 pub(crate) fn push_number(text: &mut Vec<u8>, n: u64) -> Result<(), AllocError>
     ensures { OnOk result (text.new.items ≡ text.old.items ++ decimal n) }
 {
+    if n < 10 {
+        text.push(b'0' + n as u8)?;
+        return Ok(());
+    }
     let mut buffer = Buffer::new();
     text.extend_from_slice(buffer.format(n).as_bytes())
 }
@@ -55,11 +59,11 @@ impl Printed for KvReply {
     ghost printed = { kv_text };
 
     fn push_to(&self, text: &mut Vec<u8>) -> Result<(), AllocError> {
-        match *self {
+        match self {
             KvReply::Done => text.extend_from_slice(b"done"),
             KvReply::Limit => text.extend_from_slice(b"limit"),
-            KvReply::Value(sum) => push_value(text, Some(sum)),
-            KvReply::Values(values) => push_values(text, &values),
+            KvReply::Value(sum) => push_value(text, Some(*sum)),
+            KvReply::Values(values) => push_values(text, values),
         }
     }
 }

@@ -68,6 +68,17 @@ impl KeyList {
         }
     }
 
+    /// One key.
+    pub(crate) fn of(key: Key) -> KeyList
+        ensures { result ≡ key ∷ [] }
+    {
+        KeyList {
+            tables: [key.table, 0, 0, 0, 0, 0, 0, 0, 0, 0, 0, 0, 0, 0, 0, 0],
+            ids: [key.id, 0, 0, 0, 0, 0, 0, 0, 0, 0, 0, 0, 0, 0, 0, 0],
+            size: 1,
+        }
+    }
+
     /// How many keys there are.
     pub(crate) fn len(&self) -> usize
         ensures len { result ≡ length self.now }

@@ -47,9 +47,9 @@ impl KeySet {
     pub fn of(key: Key) -> KeySet
         ensures { result ≡ key ∷ [] }
     {
-        let mut keys = KeyList::new();
-        keys.push(key);
-        KeySet { keys }
+        KeySet {
+            keys: KeyList::of(key),
+        }
     }
 
     /// How many keys there are.

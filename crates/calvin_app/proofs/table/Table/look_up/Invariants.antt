@@ -1,10 +1,10 @@
 use Rattle.std.proofs.Common.{◌≡◌, ◌≤◌, take}
 use Rattle.std.specs.FinMap as map
 use Rattle.calvin_app.specs.Rows.{view}
-use Rattle.calvin_app.proofs.table.Table.view_of.Given as goal
+use Rattle.calvin_app.proofs.table.Table.look_up.Given as goal
 
 abbrev pub invariant-loop-i : goal.invariant-loop-i
 invariant-loop-i g l = record {
-  so_far : l.view ≡ view l.self (take l.i l.keys);
-  number : map.len l.view ≤ l.i;
+  so_far : l.seen ≡ view l.self (take l.i l.keys);
+  number : map.len l.seen ≤ l.i;
 }
