@@ -4,7 +4,7 @@
 --     digits_of number      the digits of a number below a hundred
 use Rattle.std.specs.Prelude.{ℕ, ◌+◌, ◌/◌, ◌%◌, nat_lt, List, [], ◌∷◌, ◌++◌, codes, if◌then◌else◌}
 use Rattle.calvin_types.specs.declared.fault.Fault.{Fault}
-use Rattle.calvin_types.specs.declared.fault.Fault.TheVariants.{OutOfMemory, TooManyKeys, Repeated, BadConfig, TooLong, NotComplete, BadJson, BadScript, ScriptTooLong, ReadFailed, WriteFailed}
+use Rattle.calvin_types.specs.declared.fault.Fault.TheVariants.{OutOfMemory, TooManyKeys, Repeated, BadConfig, TooLong, LocksOutOfOrder, NoKeys, NotHeld, RoundsSpent, NotCurrent, Known, NotComplete, BadJson, BadScript, ScriptTooLong, ReadFailed, WriteFailed}
 
 -- a fault's line
 abbrev pub complaint : Fault → List ℕ
@@ -13,6 +13,12 @@ complaint TooManyKeys = codes "calvin: 2 TooManyKeys\n"
 complaint Repeated = codes "calvin: 3 Repeated\n"
 complaint BadConfig = codes "calvin: 4 BadConfig\n"
 complaint TooLong = codes "calvin: 5 TooLong\n"
+complaint LocksOutOfOrder = codes "calvin: 10 OutOfOrder\n"
+complaint NoKeys = codes "calvin: 11 NoKeys\n"
+complaint NotHeld = codes "calvin: 12 NotHeld\n"
+complaint RoundsSpent = codes "calvin: 20 RoundsSpent\n"
+complaint NotCurrent = codes "calvin: 21 NotCurrent\n"
+complaint Known = codes "calvin: 22 Known\n"
 complaint NotComplete = codes "calvin: 34 NotComplete\n"
 complaint BadJson = codes "calvin: 90 BadJson\n"
 complaint BadScript = codes "calvin: 91 BadScript\n"

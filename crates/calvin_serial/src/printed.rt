@@ -59,11 +59,11 @@ impl Printed for KvReply {
     ghost printed = { kv_text };
 
     fn push_to(&self, text: &mut Vec<u8>) -> Result<(), AllocError> {
-        match self {
+        match *self {
             KvReply::Done => text.extend_from_slice(b"done"),
             KvReply::Limit => text.extend_from_slice(b"limit"),
-            KvReply::Value(sum) => push_value(text, Some(*sum)),
-            KvReply::Values(values) => push_values(text, values),
+            KvReply::Value(sum) => push_value(text, Some(sum)),
+            KvReply::Values(values) => push_values(text, &values),
         }
     }
 }

@@ -23,6 +23,24 @@ pub enum Fault {
     /// A batch would have more than 256 requests.
     #[error("TooLong")]
     TooLong,
+    /// Locks were requested at a place that isn't above the last one requested.
+    #[error("OutOfOrder")]
+    LocksOutOfOrder,
+    /// Locks were requested on no key.
+    #[error("NoKeys")]
+    NoKeys,
+    /// The locks of a place aren't held: they weren't requested, were released already, or are still waited for.
+    #[error("NotHeld")]
+    NotHeld,
+    /// A new ballot's round would be above 2^32 - 1.
+    #[error("RoundsSpent")]
+    RoundsSpent,
+    /// A promise isn't for the ballot under way, or is counted; or a refusal names no greater round.
+    #[error("NotCurrent")]
+    NotCurrent,
+    /// The vote is counted, or the slot's batch is known.
+    #[error("Known")]
+    Known,
     /// The batch of a group isn't held yet.
     #[error("NotComplete")]
     NotComplete,
@@ -54,6 +72,12 @@ impl Fault {
             Fault::Repeated => 3,
             Fault::BadConfig => 4,
             Fault::TooLong => 5,
+            Fault::LocksOutOfOrder => 10,
+            Fault::NoKeys => 11,
+            Fault::NotHeld => 12,
+            Fault::RoundsSpent => 20,
+            Fault::NotCurrent => 21,
+            Fault::Known => 22,
             Fault::NotComplete => 34,
             Fault::BadJson => 90,
             Fault::BadScript => 91,
@@ -73,6 +97,12 @@ impl Fault {
             Fault::Repeated => "Repeated",
             Fault::BadConfig => "BadConfig",
             Fault::TooLong => "TooLong",
+            Fault::LocksOutOfOrder => "OutOfOrder",
+            Fault::NoKeys => "NoKeys",
+            Fault::NotHeld => "NotHeld",
+            Fault::RoundsSpent => "RoundsSpent",
+            Fault::NotCurrent => "NotCurrent",
+            Fault::Known => "Known",
             Fault::NotComplete => "NotComplete",
             Fault::BadJson => "BadJson",
             Fault::BadScript => "BadScript",

@@ -1,0 +1,5 @@
+pub mod Conflicts
+pub mod FromEnd
+pub mod LocalLocks
+pub mod PlaceOrder
+pub mod Requests

@@ -1,0 +1,51 @@
+-- Who may go ahead (Thomson et al. 2012, section 3: the two rules of deterministic locking).
+--     Requested      the unreleased requests by place, each with the keys that it reads and writes
+--     Conflict g h      one writes a key that the other reads or writes
+--     IsReady r q      the place q is requested and unreleased in r, and no earlier one of r conflicts with it on a key
+--     IsPast a q      the place q is greater than the place a, where there is one
+--     IsFirstReady r after answer      the answer is the least ready place past another, or none where there is none
+--     IsOldest r q      the place q is the least one of r
+--     oldest_ready      the least unreleased place is ready
+use Rattle.std.specs.Prelude.{◌≡◌, true, ◌⊎◌, ◌++◌, Option, Some, None, IsSome, MatchOption, refl, is_some}
+use Rattle.std.proofs.Common.{sym, ap, ◌∙◌}
+use Rattle.std.proofs.lemmas.Bool.{false≢true}
+use Rattle.std.specs.FinMap.{FinMap, get}
+use Rattle.calvin_types.specs.declared.key.Key.{Key}
+use Rattle.calvin_types.specs.declared.key_set.Sets.{Sets}
+use Rattle.calvin_types.specs.declared.place.Place.{Place}
+use Rattle.calvin_types.specs.Keys.{has}
+use Rattle.calvin_types.specs.Places.{place_cmp, IsBefore}
+
+-- the unreleased requests by place, each with its keys
+abbrev pub Requested : Type 0
+Requested = FinMap {K = Place} place_cmp Sets
+
+-- one writes a key that the other reads or writes
+abbrev pub Conflict : Sets → Sets → Type 0
+Conflict g h = (k : Key) × ((has g.writes k ≡ true) × (has (h.reads ++ h.writes) k ≡ true) ⊎ (has (g.reads ++ g.writes) k ≡ true) × (has h.writes k ≡ true))
+
+-- requested and unreleased, and in conflict with no earlier unreleased request
+abbrev pub IsReady : Requested → Place → Type 0
+IsReady r q = (h : Sets) × (get r q ≡ Some h) × ((n : Place) (g : Sets) → get r n ≡ Some g → IsBefore n q → ¬ Conflict g h)
+
+-- greater than a place, where there is one
+abbrev pub IsPast : Option Place → Place → Type 0
+IsPast None q = Unit {0}
+IsPast (Some a) q = IsBefore a q
+
+-- the least ready place past another, or none where there is none
+abbrev pub IsFirstReady : Requested → Option Place → Option Place → Type 0
+IsFirstReady r after answer = MatchOption answer ((q : Place) → IsPast after q → ¬ IsReady r q)
+    (λ p. IsPast after p × IsReady r p × ((q : Place) → IsPast after q → IsReady r q → ¬ IsBefore q p))
+
+-- the least unreleased place
+abbrev pub IsOldest : Requested → Place → Type 0
+IsOldest r q = IsSome (get r q) × ((n : Place) → IsSome (get r n) → ¬ IsBefore n q)
+
+-- the least unreleased place is ready: no earlier one is there to conflict with it
+pub oldest_ready : (r : Requested) (q : Place) → IsOldest r q → IsReady r q
+oldest_ready r q oldest = go (get r q) refl
+  where
+    go : (o : Option Sets) → get r q ≡ o → IsReady r q
+    go None e = absurd (false≢true (sym (ap is_some e) ∙ oldest.0))
+    go (Some h) e = (h, e, λ n g there before c. oldest.1 n (ap is_some there) before)

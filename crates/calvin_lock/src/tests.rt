@@ -1,0 +1,247 @@
+//! The worked cases, each public call once, and a table of drawn calls, all for any lock manager: for `ListLocks`, and
+//! for one that searches its list from the end.
+mod last_first;
+
+use crate::{ListLocks, Locks, oldest_is_ready};
+use calvin_types::{Fault, Key, KeySet, Place};
+use last_first::LastFirst;
+use std::alloc::Global;
+use std::process::Abort;
+use std::test::Fail;
+
+/// The place of epoch 0 with this number.
+fn place(n: u32) -> Place {
+    Place { epoch: 0, n }
+}
+
+/// The keys of table 0 with these numbers.
+fn set(ids: &[u64]) -> Result<KeySet, Fault> {
+    let mut keys = KeySet::new();
+    for &id in ids {
+        keys.insert(Key { table: 0, id })?;
+    }
+    Ok(keys)
+}
+
+/// The number of a refusal, and 0 for none. Want of memory is passed on.
+fn number(answer: Result<(), Fault>) -> Result<u8, Fault> {
+    match answer {
+        Ok(()) => Ok(0),
+        Err(Fault::OutOfMemory) => Err(Fault::OutOfMemory),
+        Err(fault) => Ok(fault.number()),
+    }
+}
+
+/// Requests these keys at the place with this number, and answers as `number` says.
+fn request<L: Locks>(locks: &mut L, n: u32, reads: &[u64], writes: &[u64]) -> Result<u8, Fault> {
+    number(locks.request(place(n), &set(reads)?, &set(writes)?))
+}
+
+/// Compares which of the first four places are ready.
+fn ready(rt: &impl Abort, locks: &impl Locks, expected: [bool; 4]) {
+    for n in 0..4 {
+        assert_eq!(rt; locks.is_ready(place(n)), expected[n as usize], "at {n}");
+    }
+}
+
+/// Places 0 to 3 on one key, of which the third writes it.
+fn in_sequence<L: Locks + Drop>(rt: &impl Abort, alloc: Global) -> Result<(), Fault> {
+    let mut locks = L::empty(alloc);
+    let (key, none): (&[u64], &[u64]) = (&[5], &[]);
+    for (n, reads, writes) in [
+        (0, key, none),
+        (1, key, none),
+        (2, none, key),
+        (3, key, none),
+    ] {
+        assert_eq!(rt; request(&mut locks, n, reads, writes)?, 0);
+    }
+    ready(rt, &locks, [true, true, false, false]);
+    assert_eq!(rt; number(locks.release(place(3)))?, 12);
+    assert_eq!(rt; number(locks.release(place(0)))?, 0);
+    ready(rt, &locks, [false, true, false, false]);
+    assert_eq!(rt; number(locks.release(place(3)))?, 12);
+    assert_eq!(rt; number(locks.release(place(1)))?, 0);
+    ready(rt, &locks, [false, false, true, false]);
+    assert_eq!(rt; number(locks.release(place(3)))?, 12);
+    assert_eq!(rt; number(locks.release(place(2)))?, 0);
+    ready(rt, &locks, [false, false, false, true]);
+    assert_eq!(rt; number(locks.release(place(3)))?, 0);
+    ready(rt, &locks, [false; 4]);
+    Ok(())
+}
+
+#[test]
+fn lock_sequence(rt: HostRuntime) -> Result<(), Fail> {
+    in_sequence::<ListLocks>(&rt, rt.alloc())?;
+    in_sequence::<LastFirst>(&rt, rt.alloc())?;
+    Ok(())
+}
+
+/// Four places on the keys a, b and c, which are 1, 2 and 3.
+fn queried<L: Locks + Drop>(rt: &impl Abort, alloc: Global) -> Result<(), Fault> {
+    let mut locks = L::empty(alloc);
+    let (a, b, c, none): (&[u64], &[u64], &[u64], &[u64]) = (&[1], &[2], &[3], &[]);
+    for (n, reads, writes) in [(0, a, b), (1, b, none), (2, none, a), (3, c, none)] {
+        assert_eq!(rt; request(&mut locks, n, reads, writes)?, 0);
+    }
+    assert_eq!(rt; locks.first_ready(None), Some(place(0)));
+    assert_eq!(rt; locks.first_ready(Some(place(0))), Some(place(3)));
+    assert_eq!(rt; number(locks.release(place(3)))?, 0);
+    assert_eq!(rt; number(locks.release(place(3)))?, 12);
+    assert_eq!(rt; number(locks.release(place(0)))?, 0);
+    ready(rt, &locks, [false, true, true, false]);
+    assert_eq!(rt; request(&mut locks, 3, &[1], &[])?, 10);
+    assert_eq!(rt; locks.first_ready(Some(place(1))), Some(place(2)));
+    assert_eq!(rt; locks.first_ready(Some(place(2))), None);
+    Ok(())
+}
+
+#[test]
+fn lock_queries(rt: HostRuntime) -> Result<(), Fail> {
+    queried::<ListLocks>(&rt, rt.alloc())?;
+    queried::<LastFirst>(&rt, rt.alloc())?;
+    Ok(())
+}
+
+/// Each call with ample memory, and each refusal but that for want of memory.
+fn called<L: Locks + Drop>(rt: &impl Abort, alloc: Global) -> Result<(), Fault> {
+    let mut locks = L::empty(alloc);
+    assert_eq!(rt; locks.first_ready(None), None);
+    assert_eq!(rt; locks.is_ready(place(0)), false);
+    assert_eq!(rt; number(locks.release(place(0)))?, 12);
+    assert_eq!(rt; request(&mut locks, 4, &[], &[])?, 11);
+    assert_eq!(rt; number(locks.reserve_request())?, 0);
+    assert_eq!(rt; request(&mut locks, 4, &[1, 2], &[2])?, 0);
+    assert_eq!(rt; request(&mut locks, 4, &[], &[])?, 10);
+    assert_eq!(rt; request(&mut locks, 3, &[9], &[])?, 10);
+    assert_eq!(rt; request(&mut locks, 5, &[2], &[])?, 0);
+    assert_eq!(rt; locks.is_ready(place(4)), true);
+    assert_eq!(rt; locks.is_ready(place(5)), false);
+    oldest_is_ready(&locks);
+    assert_eq!(rt; locks.first_ready(None), Some(place(4)));
+    assert_eq!(rt; number(locks.release(place(4)))?, 0);
+    assert_eq!(rt; request(&mut locks, 4, &[1], &[])?, 10);
+    assert_eq!(rt; locks.first_ready(None), Some(place(5)));
+    Ok(())
+}
+
+#[test]
+fn calls(rt: HostRuntime) -> Result<(), Fail> {
+    called::<ListLocks>(&rt, rt.alloc())?;
+    called::<LastFirst>(&rt, rt.alloc())?;
+    Ok(())
+}
+
+/// Where memory is refused once, nothing has changed, and the same call made again does its work; a reserved request
+/// isn't refused.
+fn refused<L: Locks + Drop>(rt: &impl Abort, alloc: Global) -> Result<(), Fault> {
+    let mut locks = L::empty(alloc);
+    for n in 0..20 {
+        if let Err(fault) = request(&mut locks, n, &[7], &[]) {
+            assert_eq!(rt; fault.number(), 1);
+            assert_eq!(rt; locks.is_ready(place(n)), false);
+            assert_eq!(rt; request(&mut locks, n, &[7], &[])?, 0);
+        }
+        assert_eq!(rt; locks.is_ready(place(n)), true);
+    }
+    for n in 20..40 {
+        if let Err(fault) = locks.reserve_request() {
+            assert_eq!(rt; fault.number(), 1);
+            locks.reserve_request()?;
+        }
+        assert_eq!(rt; request(&mut locks, n, &[], &[7])?, 0);
+        assert_eq!(rt; locks.is_ready(place(n)), false);
+    }
+    Ok(())
+}
+
+#[test]
+fn refused_once(rt: HostRuntime) -> Result<(), Fail> {
+    refused::<ListLocks>(&rt, rt.alloc())?;
+    refused::<LastFirst>(&rt, rt.alloc())?;
+    Ok(())
+}
+
+/// What a drawn call answered.
+#[derive(Clone, Copy, Debug, PartialEq, Eq)]
+enum Answer {
+    Number(u8),
+    Ready(bool),
+    First(Option<Place>),
+}
+
+/// A linear congruence.
+#[derive(Drop)]
+struct Draws {
+    state: u64,
+}
+
+impl Draws {
+    /// A number below `bound`, which is above 0.
+    fn below(&mut self, bound: u32) -> u32 {
+        self.state = self
+            .state
+            .wrapping_mul(6364136223846793005)
+            .wrapping_add(1442695040888963407);
+        ((self.state >> 33) as u32).checked_rem(bound).unwrap_or(0)
+    }
+
+    /// Some of the keys 0 to 7, and often none.
+    fn keys(&mut self) -> Result<KeySet, Fault> {
+        let mut keys = KeySet::new();
+        for _ in 0..self.below(3) {
+            let id = self.below(8) as u64;
+            keys.insert(Key { table: 0, id })?;
+        }
+        Ok(keys)
+    }
+}
+
+/// The answers to so many drawn calls. The place requested rises with each second call, so that some are requested
+/// again; the other calls ask for one near it, or for the first ready one.
+fn drawn<L: Locks + Drop>(alloc: Global, start: u64, calls: u32) -> Result<Vec<Answer>, Fault> {
+    let mut locks = L::empty(alloc);
+    let mut draws = Draws { state: start };
+    let mut answers = Vec::new(alloc);
+    for call in 0..calls {
+        let near = place((call / 2).saturating_sub(draws.below(12)));
+        let at = match draws.below(2) {
+            0 => near,
+            _ => locks.first_ready(None).unwrap_or(near),
+        };
+        let answer = match draws.below(8) {
+            0 | 1 => {
+                let (reads, writes) = (draws.keys()?, draws.keys()?);
+                Answer::Number(number(locks.request(place(call / 2), &reads, &writes))?)
+            }
+            2 | 3 | 4 => Answer::Number(number(locks.release(at))?),
+            5 => Answer::Ready(locks.is_ready(at)),
+            6 => Answer::First(locks.first_ready(Some(at))),
+            _ => Answer::First(locks.first_ready(None)),
+        };
+        answers.push(answer)?;
+    }
+    Ok(answers)
+}
+
+#[test]
+fn drawn_calls_agree(rt: HostRuntime) -> Result<(), Fail> {
+    for start in 1..21 {
+        let answers = drawn::<ListLocks>(rt.alloc(), start, 400)?;
+        let others = drawn::<LastFirst>(rt.alloc(), start, 400)?;
+        assert_eq!(rt; answers.as_slice(), others.as_slice());
+        for wanted in [
+            Answer::Number(0),
+            Answer::Number(10),
+            Answer::Number(11),
+            Answer::Number(12),
+            Answer::Ready(true),
+            Answer::Ready(false),
+            Answer::First(None),
+        ] {
+            assert!(rt; answers.as_slice().contains(&wanted), "{wanted:?}");
+        }
+    }
+    Ok(())
+}

@@ -1,0 +1,2 @@
+pub mod NewKeys
+pub mod Sides

@@ -1,0 +1,17 @@
+//! The rows of one partition: what a keeper of rows is, snapshots, and a keeper with all rows in one ordered map.
+#![tactic(auto)]
+
+mod plain;
+mod rows;
+mod snapshot;
+mod stock;
+mod tree;
+
+pub use plain::PlainRows;
+pub use rows::Rows;
+pub use snapshot::Snapshot;
+
+#[cfg(test)]
+mod list_rows;
+#[cfg(test)]
+mod tests;

@@ -1,0 +1,127 @@
+//! A second keeper, for tests: the pairs in one list, by ascending key.
+ghost use Rattle.std.specs.Prelude.{◌≡◌, ◌+◌, ◌≤◌, IfOk, MatchResult};
+ghost use Rattle.std.specs.FinMap as map;
+ghost use Rattle.calvin_app.specs.Places.{IsAt, IsMissingAt};
+
+use crate::{Rows, Snapshot};
+use calvin_app::Writes;
+use calvin_types::{Fault, Key, Place};
+use std::alloc::{AllocError, Global};
+use std::cmp::Ordering;
+use std::marker::Model;
+
+#[derive(Drop)]
+pub(crate) struct ListRows<Row> {
+    alloc: Global,
+    pairs: Vec<(Key, Row)>,
+    room: usize,
+}
+
+impl<Row> Model for ListRows<Row> {
+    ghost use Rattle.std.specs.Prelude.{◌+◌, ◌≤◌, vec_len, vec_capacity};
+    ghost use Rattle.calvin_app.specs.Entries.{shown, rising};
+    ghost use Rattle.calvin_store.specs.Plain.{Kept, coded_kept};
+
+    ghost Value = { Kept Row };
+
+    ghost coded = { coded_kept Row.code };
+
+    ghost view = { λ l. record { rows = shown l.pairs.items; room = l.room } };
+
+    ghost invariant = { λ l. rising l.pairs.items × (vec_len l.pairs + l.room ≤ vec_capacity l.pairs) };
+}
+
+impl<Row: Copy> ListRows<Row> {
+    fn put(&mut self, key: Key, row: Row)
+        requires { map.len (map.insert self.old.rows key row) ≤ map.len self.old.rows + self.old.room }
+        ensures rows { self.new.rows ≡ map.insert self.old.rows key row }
+        ensures room { map.len self.new.rows + self.new.room ≡ map.len self.old.rows + self.old.room }
+    {
+        match place_of(&self.pairs, key) {
+            Ok(i) => self.pairs[i] = (key, row),
+            Err(i) => {
+                self.pairs.insert(i, (key, row)).unwrap();
+                self.room -= 1;
+            }
+        }
+    }
+}
+
+impl<Row: Copy> Rows<Row> for ListRows<Row> {
+    ghost rows = { λ l. l.rows };
+
+    ghost room = { λ l. l.room };
+
+    fn empty(alloc: Global) -> ListRows<Row> {
+        ListRows {
+            alloc,
+            pairs: Vec::new(alloc),
+            room: 0,
+        }
+    }
+
+    fn len(&self) -> usize {
+        self.pairs.len()
+    }
+
+    fn get(&self, key: &Key) -> Option<Row> {
+        for i in 0..self.pairs.len() {
+            let (k, row) = self.pairs[i];
+            if *key == k {
+                return Some(row);
+            }
+        }
+        None
+    }
+
+    fn room(&self) -> usize {
+        self.room
+    }
+
+    fn reserve(&mut self, n: usize) -> Result<(), Fault> {
+        if self.room < n {
+            self.pairs.reserve(n)?;
+            self.room = n;
+        }
+        Ok(())
+    }
+
+    fn put_all(&mut self, _place: Place, writes: &Writes<Row>) {
+        for i in 0..writes.len() {
+            let (key, row) = writes.at(i);
+            self.put(key, row);
+        }
+    }
+
+    fn snapshot(&self) -> Result<Snapshot<Row>, Fault> {
+        let pairs = copy_of(self.alloc, &self.pairs)?;
+        Snapshot::new(self.alloc, pairs)
+    }
+
+    fn load(&mut self, snapshot: &Snapshot<Row>) -> Result<(), Fault> {
+        let mut pairs = copy_of(self.alloc, snapshot.pairs())?;
+        pairs.reserve(self.room)?;
+        self.pairs = pairs;
+        Ok(())
+    }
+}
+
+/// The place of a key, or the place that it would take.
+fn place_of<Row: Copy>(pairs: &[(Key, Row)], key: Key) -> Result<usize, usize>
+    ensures { MatchResult result (IsAt key pairs.now) (IsMissingAt key pairs.now) }
+{
+    for i in 0..pairs.len() {
+        match key.cmp(&pairs[i].0) {
+            Ordering::Less => return Err(i),
+            Ordering::Equal => return Ok(i),
+            Ordering::Greater => {}
+        }
+    }
+    Err(pairs.len())
+}
+
+fn copy_of<Row: Copy>(alloc: Global, pairs: &[(Key, Row)]) -> Result<Vec<(Key, Row)>, AllocError>
+    ensures { IfOk result (λ v. v.items ≡ pairs.now) }
+{
+    pairs.iter().copied().collect(alloc)
+}

@@ -1,0 +1,70 @@
+//! A copy of the rows at one time.
+ghost use Rattle.std.specs.Prelude.{◌≡◌, IfOk, IsOkUnless};
+ghost use Rattle.std.specs.FinMap as map;
+ghost use Rattle.calvin_app.specs.Entries.{shown, rising};
+
+use calvin_types::{Fault, Key, Shared};
+use std::alloc::Global;
+use std::marker::Model;
+
+/// All rows of a keeper at one time, which contracts see as a finite map. None can be changed, and copies share the
+/// memory.
+#[derive(Debug, Drop, PartialEq, Eq)]
+pub struct Snapshot<Row> {
+    pairs: Shared<(Key, Row)>,
+}
+
+impl<Row> Model for Snapshot<Row> {
+    ghost use Rattle.std.specs.FinMap as map;
+    ghost use Rattle.calvin_types.specs.Keys.{key_cmp};
+    ghost use Rattle.calvin_types.specs.KeyCode.{coded_key};
+    ghost use Rattle.calvin_app.specs.Entries.{shown, rising, entries_kept};
+
+    ghost Value = { map.FinMap key_cmp Row };
+
+    ghost coded = { map.code coded_key Row.code };
+
+    ghost view = { λ s. shown s.pairs };
+
+    ghost invariant = { λ s. rising s.pairs };
+
+    ghost inverse = { λ m. record { pairs = map.entries m } };
+
+    ghost inverse_ok = { λ s h i. record { pairs = entries_kept s.pairs h i } };
+}
+
+impl<Row: Copy> Snapshot<Row> {
+    /// The rows of these pairs.
+    pub(crate) fn new(alloc: Global, pairs: Vec<(Key, Row)>) -> Result<Snapshot<Row>, Fault>
+        requires { rising pairs.items }
+        ensures ok { IfOk result (λ s. s ≡ shown pairs.items) }
+        ensures only { IsOkUnless result Fault.OutOfMemory }
+    {
+        let pairs = Shared::new(alloc, pairs)?;
+        Ok(Snapshot { pairs })
+    }
+
+    /// How many keys have a row.
+    pub fn len(&self) -> usize
+        ensures { result ≡ map.len self.now }
+    {
+        self.pairs.as_slice().len()
+    }
+
+    /// Each key that has a row, with its row, by ascending key.
+    pub fn pairs(&self) -> &[(Key, Row)]
+        ensures { result.now ≡ map.entries self.now }
+    {
+        self.pairs.as_slice()
+    }
+
+    /// Another owner of the same memory. It takes none of its own, and is refused with `OutOfMemory` only where there
+    /// are 2^63 - 1 owners.
+    pub fn copy(&self) -> Result<Snapshot<Row>, Fault>
+        ensures ok { IfOk result (λ s. s ≡ self.now) }
+        ensures only { IsOkUnless result Fault.OutOfMemory }
+    {
+        let pairs = self.pairs.share()?;
+        Ok(Snapshot { pairs })
+    }
+}
