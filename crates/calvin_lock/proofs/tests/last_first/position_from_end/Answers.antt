@@ -1,5 +1,5 @@
-use Rattle.std.proofs.Common.{◌≡◌, ℕ, ◌≤◌, ◌<◌, ◌-◌, Some, slice_get, length, refl, sym, ap, ◌∙◌, arith, rules}
-use Rattle.std.proofs.lemmas.Option.{same_Some, slice_get_read, slice_get_within}
+use Rattle.std.proofs.Common.{◌≡◌, ℕ, ◌<◌, ◌-◌, Some, slice_get, length, refl, sym, ap, ◌∙◌, arith, rules}
+use Rattle.std.proofs.lemmas.Option.{same_Some, slice_get_read}
 use Rattle.calvin_types.specs.declared.key_set.Sets.{Sets}
 use Rattle.calvin_types.specs.declared.place.Place.{Place}
 use Rattle.calvin_lock.proofs.Requests.{unfound_anywhere}

@@ -1,4 +1,4 @@
-use Rattle.std.proofs.Common.{◌≡◌, ◌-◌, ◌<◌, ◌≤◌, Some, slice_get, vec_len, sym, subst, ◌∙◌, arith}
+use Rattle.std.proofs.Common.{◌-◌, vec_len, sym, subst, ◌∙◌, arith}
 use Rattle.std.proofs.lemmas.Bool.{false≢true}
 use Rattle.std.proofs.lemmas.Option.{slice_get_read}
 use Rattle.calvin_lock.specs.Ready.{IsFirstReady}

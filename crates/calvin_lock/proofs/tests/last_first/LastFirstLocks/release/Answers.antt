@@ -1,4 +1,4 @@
-use Rattle.std.proofs.Common.{◌+◌, ◌≤◌, slice_get, sym, ap, subst, ◌∙◌, arith}
+use Rattle.std.proofs.Common.{slice_get, sym, ap, subst, ◌∙◌, arith}
 use Rattle.std.specs.FinMap as map
 use Rattle.calvin_types.specs.Places.{place_cmp}
 use Rattle.calvin_lock.specs.ListOrder.{IsInOrder}

@@ -1,4 +1,4 @@
-use Rattle.std.proofs.Common.{◌+◌, ◌≤◌, ◌-◌, ◌≡◌, cond, is_ok, [], ◌∷◌, ◌++◌, max, Some, sym, ap, subst, ◌∙◌, arith}
+use Rattle.std.proofs.Common.{◌-◌, ◌≡◌, cond, is_ok, [], ◌∷◌, ◌++◌, Some, sym, ap, subst, ◌∙◌, arith}
 use Rattle.std.specs.FinMap.{from_entries, insert}
 use Rattle.calvin_types.specs.declared.key_set.Sets.{Sets}
 use Rattle.calvin_types.specs.Places.{place_cmp}
