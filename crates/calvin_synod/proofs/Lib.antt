@@ -1,0 +1,11 @@
+pub mod Order
+pub mod Majorities
+pub mod Slots
+pub mod Core
+pub mod Replicas
+pub mod Roles
+pub mod Cases
+pub mod Maps
+pub mod Bounds
+pub mod Voters
+pub mod Reported

@@ -1,0 +1,11 @@
+use Rattle.std.proofs.Common.{◌+◌, ◌||◌, drop, sym, ap, ◌∙◌}
+use Rattle.std.specs.Prelude.{nat_eq}
+use Rattle.std.specs.List.{list_any}
+use Rattle.calvin_synod.proofs.Voters.{any_found, any_passed}
+use Rattle.calvin_synod.proofs.learner.has.Goals as goal
+
+pub returns-then-from-at : goal.returns-then-from-at
+returns-then-from-at c = sym (any_found c.args.from c.args.voters.now c.loop-i.i c.at.result c.at.ensures c.if-from-at.true) ∙ c.loop-i.invariant
+
+pub loop-i-preserved : goal.loop-i-preserved
+loop-i-preserved c = any_passed c.args.from c.args.voters.now c.loop-i.i c.at.result c.at.ensures c.if-from-at.false ∙ c.loop-i.invariant

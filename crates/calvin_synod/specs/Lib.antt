@@ -1,0 +1,6 @@
+pub mod Ballots
+pub mod Cases
+pub mod Codes
+pub mod Quorums
+pub mod Roles
+pub mod States

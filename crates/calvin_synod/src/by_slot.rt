@@ -1,0 +1,131 @@
+//! One value at most for each slot.
+ghost use Rattle.std.specs.Prelude.{◌≡◌, ◌-◌, ◌<◌, ◌++◌, ◌∷◌, [], length, max, None, IsOk, OnOk, OnErr, IsOkUnless};
+ghost use Rattle.std.specs.Option.{option_copied, ForSome};
+ghost use Rattle.std.specs.FinMap as map;
+ghost use Rattle.calvin_synod.specs.Roles.{promised};
+
+use crate::attempt::{Attempt, Report};
+use crate::vote::Recorded;
+use calvin_types::{Ballot, Fault, Slot};
+use std::alloc::Global;
+use std::collections::HashMap;
+use std::marker::Model;
+
+/// At most one value for each slot. Room for some more can be reserved.
+#[derive(Drop)]
+pub struct BySlot<V> {
+    entries: HashMap<Slot, V>,
+    room: usize,
+}
+
+impl<V> Model for BySlot<V> {
+    ghost use Rattle.std.specs.Prelude.{◌≤◌};
+    ghost use Rattle.std.specs.FinMap.{from_entries};
+    ghost use Rattle.std.specs.HashMap.{spare};
+    ghost use Rattle.calvin_synod.specs.States.{BySlot};
+    ghost use Rattle.calvin_synod.specs.Codes.{coded_by_slot};
+
+    ghost Value = { BySlot V };
+
+    ghost coded = { coded_by_slot V.code };
+
+    ghost view = { λ m. record { entries = from_entries m.entries.entries; room = m.room } };
+
+    ghost invariant = { λ m. m.room ≤ spare m.entries };
+}
+
+impl<V: Drop> BySlot<V> {
+    pub fn new(alloc: Global) -> BySlot<V>
+        ensures { result ≡ record { entries = map.empty; room = 0 } }
+    {
+        BySlot {
+            entries: HashMap::new(alloc),
+            room: 0,
+        }
+    }
+
+    pub fn get(&self, slot: Slot) -> Option<&V>
+        ensures { option_copied result ≡ map.get self.now.entries slot }
+    {
+        self.entries.get(&slot)
+    }
+
+    /// Puts a value at a slot, in place of the one that is there.
+    pub fn insert(&mut self, slot: Slot, value: V) -> Result<(), Fault>
+        ensures put { OnOk result (self.new ≡ record { entries = map.insert self.old.entries slot value; room = self.old.room - 1 }) }
+        ensures unchanged { OnErr result (self.new ≡ self.old) }
+        ensures err { IsOkUnless result Fault.OutOfMemory }
+        ensures absent { OnErr result (map.get self.old.entries slot ≡ None) }
+        ensures succeeds { 0 < self.old.room → IsOk result }
+    {
+        match self.entries.insert(slot, value) {
+            Err(_) => Err(Fault::OutOfMemory),
+            Ok(_) => {
+                self.room = self.room.saturating_sub(1);
+                Ok(())
+            }
+        }
+    }
+
+    /// Takes the value of a slot out.
+    pub fn remove(&mut self, slot: Slot) -> Option<V>
+        ensures value { result ≡ map.get self.old.entries slot }
+        ensures removed { self.new ≡ record self.old { entries = map.remove self.old.entries slot } }
+    {
+        self.entries.remove(&slot)
+    }
+
+    /// Room for one more slot at least.
+    pub fn reserve(&mut self) -> Result<(), Fault>
+        ensures reserved { OnOk result (self.new ≡ record self.old { room = max 1 self.old.room }) }
+        ensures unchanged { OnErr result (self.new ≡ self.old) }
+        ensures err { IsOkUnless result Fault.OutOfMemory }
+    {
+        if self.room == 0 {
+            self.entries.reserve(1)?;
+            self.room = 1;
+        }
+        Ok(())
+    }
+}
+
+impl<B: Drop> BySlot<Recorded<B>> {
+    /// Promises a ballot at a slot. A vote that is recorded stays.
+    pub fn promise(&mut self, slot: Slot, ballot: Ballot) -> Result<(), Fault>
+        ensures promised { OnOk result (self.new.entries ≡ promised self.old.entries slot ballot) }
+        ensures unchanged { OnErr result (self.new ≡ self.old) }
+        ensures err { IsOkUnless result Fault.OutOfMemory }
+        ensures absent { OnErr result (map.get self.old.entries slot ≡ None) }
+        ensures succeeds { 0 < self.old.room → IsOk result }
+    {
+        match self.entries.get_mut(&slot) {
+            Some(recorded) => {
+                recorded.promise = ballot;
+                Ok(())
+            }
+            None => {
+                self.insert(
+                    slot,
+                    Recorded {
+                        promise: ballot,
+                        vote: None,
+                    },
+                )?;
+                Ok(())
+            }
+        }
+    }
+}
+
+impl<B: Drop> BySlot<Attempt<B>> {
+    /// Counts a report more for the attempt at a slot.
+    pub fn count(&mut self, slot: Slot, report: Report<B>)
+        requires few { ForSome (map.get self.old.entries slot) (λ t. length t.counted < 4) }
+        ensures counted { ForSome (map.get self.old.entries slot) (λ t. self.new ≡ record self.old { entries = map.insert self.old.entries slot (record t { counted = t.counted ++ report ∷ [] }) }) }
+    {
+        let Some(attempt) = self.entries.get_mut(&slot) else {
+            return;
+        };
+        attempt.counted.push(report);
+    }
+}

@@ -1,0 +1,23 @@
+//! Agreement of one replication group on the batch of each slot, by the single-decree synod of "Paxos Made Simple": the
+//! three roles of a replica, as plain data that answers messages.
+#![tactic(auto)]
+
+mod acceptor;
+mod attempt;
+mod by_slot;
+mod highest;
+mod learner;
+mod message;
+mod proposer;
+mod quorum;
+mod tallies;
+mod vote;
+
+pub use acceptor::Acceptor;
+pub use learner::Learner;
+pub use message::Message;
+pub use proposer::Proposer;
+pub use vote::{Recorded, Vote};
+
+#[cfg(test)]
+mod tests;

@@ -1,0 +1,37 @@
+//! What the replicas of a group tell one another.
+use crate::vote::Vote;
+use calvin_types::{Ballot, Slot};
+
+/// A message about one slot ("Paxos Made Simple", section 2.2, phases 1a, 1b, 2a and 2b).
+#[derive(Debug, Drop, PartialEq, Eq)]
+pub enum Message<B> {
+    /// Phase 1a: asks for a promise.
+    Prepare {
+        slot: Slot,
+        ballot: Ballot,
+    },
+    /// Phase 1b: promises the ballot, and reports the vote of the greatest ballot cast before, if there is one.
+    Promise {
+        slot: Slot,
+        ballot: Ballot,
+        vote: Option<Vote<B>>,
+    },
+    /// Phase 2a: asks for a vote.
+    Accept {
+        slot: Slot,
+        ballot: Ballot,
+        batch: B,
+    },
+    /// A prepare or an accept isn't answered, since of this promise.
+    Refused {
+        slot: Slot,
+        ballot: Ballot,
+        promise: Ballot,
+    },
+    /// Phase 2b: a vote was cast.
+    Accepted {
+        slot: Slot,
+        ballot: Ballot,
+        batch: B,
+    },
+}
