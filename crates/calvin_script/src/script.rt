@@ -118,7 +118,10 @@ pub(crate) fn script_of<Op: Operation>(
     if app != Op::app_name() {
         return Err(ScriptError::BadScript);
     }
-    let epochs = value.get_mut("epochs").ok_or(ScriptError::BadScript)?.take();
+    let epochs = value
+        .get_mut("epochs")
+        .ok_or(ScriptError::BadScript)?
+        .take();
     let epochs = list_of(alloc, epochs)?;
     if !all_groups_fit(partitions, &epochs) {
         return Err(ScriptError::BadScript);
