@@ -6,7 +6,7 @@
 use Rattle.std.specs.Prelude.{◌≡◌, ℕ, List, Option, Result, Ok, Err, ◌⊎◌}
 use Rattle.std.specs.Io.KnownBytes.{Appends}
 use Rattle.calvin_types.specs.declared.fault.Fault.{Fault}
-use Rattle.calvin_types.specs.declared.fault.Fault.TheVariants.{OutOfMemory, TooManyKeys, Repeated, BadConfig, TooLong, LocksOutOfOrder, NoKeys, NotHeld, RoundsSpent, NotCurrent, Known, NotComplete, BadJson, BadScript, ScriptTooLong, ReadFailed, WriteFailed}
+use Rattle.calvin_types.specs.declared.fault.Fault.TheVariants.{OutOfMemory, TooManyKeys, Repeated, BadConfig, TooLong, LocksOutOfOrder, NoKeys, NotHeld, RoundsSpent, NotCurrent, Known, NotComplete, NoNode, NoPacket, BadJson, BadScript, ScriptTooLong, ReadFailed, WriteFailed}
 use Rattle.calvin_edge.specs.Complaints.{complaint}
 
 abbrev pub status_of : Fault → ℕ
@@ -22,6 +22,8 @@ status_of RoundsSpent = 2
 status_of NotCurrent = 2
 status_of Known = 2
 status_of NotComplete = 2
+status_of NoNode = 2
+status_of NoPacket = 2
 status_of BadJson = 2
 status_of BadScript = 2
 status_of ScriptTooLong = 2

@@ -1,3 +1,5 @@
+pub mod Asked
+pub mod Ends
 pub mod Fresh
 pub mod Puts
 pub mod Results

@@ -3,6 +3,7 @@ ghost use Rattle.std.specs.Prelude.{◌≡◌, ℕ, Bool};
 ghost use Rattle.std.specs.Mem.{FitsInMemory};
 ghost use Rattle.calvin_app.specs.Meaning.{Meaning, IsLawful, IsExact};
 ghost use Rattle.calvin_app.specs.contracts.view.View.{the_row as the_view_row};
+ghost use Rattle.calvin_types.specs.SameKeys.{same_sets};
 
 use crate::view::View;
 use crate::writes::Writes;
@@ -48,6 +49,13 @@ pub trait App {
     /// The sets that the request needs on these rows. A key that the view doesn't have counts as one without a row.
     fn sets(&self, args: &Self::Args, view: &View<Self::Row>) -> Sets
         ensures { result ≡ meaning.needs args.now view.now };
+
+    /// Whether these are the sets that `sets` gives. An application may tell so without making them.
+    fn needs_only(&self, args: &Self::Args, view: &View<Self::Row>, sets: &Sets) -> bool
+        ensures { result ≡ same_sets (meaning.needs args.now view.now) sets.now }
+    {
+        self.sets(args, view) == *sets
+    }
 
     /// What the request is told and what it writes on these rows. It writes only keys of the writes that it needs.
     fn run(&self, args: &Self::Args, view: &View<Self::Row>) -> (Self::Reply, Writes<Self::Row>)

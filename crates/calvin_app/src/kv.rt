@@ -1,10 +1,12 @@
 //! Numbers by key: they are put, read and added to.
-ghost use Rattle.std.specs.Prelude.{◌≡◌, ℕ, false, map};
+ghost use Rattle.std.specs.Prelude.{◌≡◌, ◌==◌, ◌≤◌, ℕ, false, [], ◌∷◌, length, map};
+ghost use Rattle.std.specs.List.{list_all};
 ghost use Rattle.std.specs.FinMap as finmap;
 ghost use Rattle.std.proofs.Common.{lit<};
 ghost use Rattle.calvin_app.specs.KvExact.{requests_exact, numbers_exact, replies_exact};
 ghost use Rattle.calvin_app.specs.Rows.{Rows};
 ghost use Rattle.calvin_app.specs.Kv.{kv, kv_lawful, asked};
+ghost use Rattle.calvin_types.specs.SameKeys.{same_keys};
 
 use crate::app::App;
 use crate::view::View;
@@ -25,23 +27,30 @@ pub enum KvRequest {
 
 impl KvRequest {
     /// The keys that the request reads and writes, whatever the rows are.
-    #[inline(always)]
     pub fn needs(&self) -> Sets
         ensures { (rows : Rows ℕ) → result ≡ kv.needs self.now rows }
     {
+        let mut sets = Sets {
+            reads: KeySet::new(),
+            writes: KeySet::new(),
+        };
+        self.add_needs(&mut sets);
+        sets
+    }
+
+    /// Adds the keys that the request reads and writes, whatever the rows are, to sets that have none yet.
+    #[inline(always)]
+    pub fn add_needs(&self, sets: &mut Sets)
+        requires { sets.old ≡ record { reads = []; writes = [] } }
+        ensures { (rows : Rows ℕ) → sets.new ≡ kv.needs self.now rows }
+    {
         match self {
-            KvRequest::Put(id, _) => Sets {
-                reads: KeySet::new(),
-                writes: KeySet::of(key_of(*id)),
-            },
-            KvRequest::Get(keys) => Sets {
-                reads: asked(keys),
-                writes: KeySet::new(),
-            },
-            KvRequest::Add(id, _) => Sets {
-                reads: KeySet::of(key_of(*id)),
-                writes: KeySet::of(key_of(*id)),
-            },
+            KvRequest::Put(id, _) => sets.writes.insert(key_of(*id)).unwrap(),
+            KvRequest::Get(keys) => add_asked(keys, &mut sets.reads),
+            KvRequest::Add(id, _) => {
+                sets.reads.insert(key_of(*id)).unwrap();
+                sets.writes.insert(key_of(*id)).unwrap();
+            }
         }
     }
 }
@@ -70,22 +79,87 @@ fn key_of(id: u64) -> Key
     Key { table: 0, id }
 }
 
+/// Whether a get asks for all of the keys.
+fn asks_for_all(keys: &KeySet) -> bool
+    ensures all { result ≡ list_all (λ k. k.table == 0) keys.now }
+    ensures at_most { length keys.now ≤ 16 }
+{
+    for i in 0..keys.len() {
+        if keys.at(i).table != 0 {
+            return false;
+        }
+    }
+    true
+}
+
+/// Adds the keys that a get asks for to a set that has none.
+fn add_asked(keys: &KeySet, set: &mut KeySet)
+    requires { set.old ≡ [] }
+    ensures { set.new ≡ asked keys.now }
+{
+    if asks_for_all(keys) {
+        *set = *keys;
+    } else {
+        *set = keys.of_table(0);
+    }
+}
+
 /// The keys that a get asks for.
 fn asked(keys: &KeySet) -> KeySet
     ensures { result ≡ asked keys.now }
 {
-    keys.of_table(0)
+    let mut set = KeySet::new();
+    add_asked(keys, &mut set);
+    set
 }
 
-/// For each key its number or none.
-fn values_of(keys: &KeySet, view: &View<u64>) -> Few<Option<u64>>
-    ensures { result ≡ map (finmap.get view.now) keys.now }
+/// Whether a set has the keys that a get asks for and no others.
+fn are_asked(keys: &KeySet, set: &KeySet) -> bool
+    ensures { result ≡ same_keys (asked keys.now) set.now }
 {
-    let mut values = Few::new();
+    if asks_for_all(keys) {
+        return *keys == *set;
+    }
+    asked(keys) == *set
+}
+
+/// Whether a set has this key and no other.
+fn is_only(key: Key, set: &KeySet) -> bool
+    ensures { result ≡ same_keys (key ∷ []) set.now }
+{
+    if set.len() != 1 {
+        return false;
+    }
+    key == set.at(0)
+}
+
+/// Whether a set has no key.
+fn is_none(set: &KeySet) -> bool
+    ensures { result ≡ same_keys [] set.now }
+{
+    set.len() == 0
+}
+
+/// Adds for each key its number or none, to values that have none yet.
+fn add_values(keys: &KeySet, view: &View<u64>, values: &mut Few<Option<u64>>)
+    requires { values.old ≡ [] }
+    ensures { values.new ≡ map (finmap.get view.now) keys.now }
+{
     for i in 0..keys.len() {
         values.push(view.get(&keys.at(i)));
     }
-    values
+}
+
+/// Adds for each key that a get asks for its number or none, to values that have none yet.
+fn add_asked_values(keys: &KeySet, view: &View<u64>, values: &mut Few<Option<u64>>)
+    requires { values.old ≡ [] }
+    ensures { values.new ≡ map (finmap.get view.now) (asked keys.now) }
+{
+    if asks_for_all(keys) {
+        add_values(keys, view, values);
+    } else {
+        add_values(&asked(keys), view, values);
+    }
 }
 
 impl App for Kv {
@@ -119,11 +193,22 @@ impl App for Kv {
         args.needs()
     }
 
+    fn needs_only(&self, args: &KvRequest, _view: &View<u64>, sets: &Sets) -> bool {
+        match args {
+            KvRequest::Put(id, _) => is_none(&sets.reads) && is_only(key_of(*id), &sets.writes),
+            KvRequest::Get(keys) => are_asked(keys, &sets.reads) && is_none(&sets.writes),
+            KvRequest::Add(id, _) => {
+                is_only(key_of(*id), &sets.reads) && is_only(key_of(*id), &sets.writes)
+            }
+        }
+    }
+
     fn run(&self, args: &KvRequest, view: &View<u64>) -> (KvReply, Writes<u64>) {
         match args {
             KvRequest::Put(id, value) => (KvReply::Done, Writes::of(key_of(*id), *value)),
             KvRequest::Get(keys) => {
-                let values = values_of(&asked(keys), view);
+                let mut values = Few::new();
+                add_asked_values(keys, view, &mut values);
                 (KvReply::Values(values), Writes::new())
             }
             KvRequest::Add(id, amount) => {

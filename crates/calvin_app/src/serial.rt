@@ -23,7 +23,7 @@ pub struct Serial<A: App> {
 impl<A: App> Model for Serial<A> {
     ghost use Rattle.std.specs.FinMap as map;
     ghost use Rattle.calvin_types.specs.Keys.{key_cmp};
-    ghost use Rattle.calvin_types.specs.KeyCode.{coded_key};
+    ghost use Rattle.calvin_types.specs.Codes.{coded_key};
 
     ghost Value = { map.FinMap key_cmp A.Row };
 
@@ -64,12 +64,12 @@ impl<A: App> Serial<A> {
     {
         let mut view = View::new();
         self.rows.look_up(&txn.sets.reads, &mut view);
-        if self.app.sets(&txn.args, &view) != txn.sets {
+        if !self.app.needs_only(&txn.args, &view, &txn.sets) {
             return Ok(Answer::Changed);
         }
-        let (reply, writes) = self.app.run(&txn.args, &view);
-        self.rows.overwrite(&writes)?;
-        Ok(Answer::Reply(reply))
+        let outcome = self.app.run(&txn.args, &view);
+        self.rows.overwrite(&outcome.1)?;
+        Ok(Answer::Reply(outcome.0))
     }
 
     /// Runs requests one after another, and gives an answer for each. Refused for want of memory alone, and then the

@@ -19,7 +19,7 @@ pub struct Table<Row> {
 impl<Row> Model for Table<Row> {
     ghost use Rattle.std.specs.FinMap as map;
     ghost use Rattle.calvin_types.specs.Keys.{key_cmp};
-    ghost use Rattle.calvin_types.specs.KeyCode.{coded_key};
+    ghost use Rattle.calvin_types.specs.Codes.{coded_key};
 
     ghost Value = { map.FinMap key_cmp Row };
 

@@ -4,7 +4,7 @@
 --     digits_of number      the digits of a number below a hundred
 use Rattle.std.specs.Prelude.{ℕ, ◌+◌, ◌/◌, ◌%◌, nat_lt, List, [], ◌∷◌, ◌++◌, codes, if◌then◌else◌}
 use Rattle.calvin_types.specs.declared.fault.Fault.{Fault}
-use Rattle.calvin_types.specs.declared.fault.Fault.TheVariants.{OutOfMemory, TooManyKeys, Repeated, BadConfig, TooLong, LocksOutOfOrder, NoKeys, NotHeld, RoundsSpent, NotCurrent, Known, NotComplete, BadJson, BadScript, ScriptTooLong, ReadFailed, WriteFailed}
+use Rattle.calvin_types.specs.declared.fault.Fault.TheVariants.{OutOfMemory, TooManyKeys, Repeated, BadConfig, TooLong, LocksOutOfOrder, NoKeys, NotHeld, RoundsSpent, NotCurrent, Known, NotComplete, NoNode, NoPacket, BadJson, BadScript, ScriptTooLong, ReadFailed, WriteFailed}
 
 -- a fault's line
 abbrev pub complaint : Fault → List ℕ
@@ -20,6 +20,8 @@ complaint RoundsSpent = codes "calvin: 20 RoundsSpent\n"
 complaint NotCurrent = codes "calvin: 21 NotCurrent\n"
 complaint Known = codes "calvin: 22 Known\n"
 complaint NotComplete = codes "calvin: 34 NotComplete\n"
+complaint NoNode = codes "calvin: 60 NoNode\n"
+complaint NoPacket = codes "calvin: 61 NoPacket\n"
 complaint BadJson = codes "calvin: 90 BadJson\n"
 complaint BadScript = codes "calvin: 91 BadScript\n"
 complaint ScriptTooLong = codes "calvin: 92 ScriptTooLong\n"

@@ -24,6 +24,8 @@ pub fn complaint(fault: Fault) -> &'static str
         Fault::NotCurrent => "calvin: 21 NotCurrent\n",
         Fault::Known => "calvin: 22 Known\n",
         Fault::NotComplete => "calvin: 34 NotComplete\n",
+        Fault::NoNode => "calvin: 60 NoNode\n",
+        Fault::NoPacket => "calvin: 61 NoPacket\n",
         Fault::BadJson => "calvin: 90 BadJson\n",
         Fault::BadScript => "calvin: 91 BadScript\n",
         Fault::ScriptTooLong => "calvin: 92 ScriptTooLong\n",

@@ -269,6 +269,8 @@ fn a_complaint_has_the_number_and_the_name(rt: HostRuntime) -> Result<(), Fail> 
         Fault::NotCurrent,
         Fault::Known,
         Fault::NotComplete,
+        Fault::NoNode,
+        Fault::NoPacket,
         Fault::BadJson,
         Fault::BadScript,
         Fault::ScriptTooLong,

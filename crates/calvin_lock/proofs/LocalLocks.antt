@@ -18,7 +18,7 @@ use Rattle.calvin_types.specs.Places.{place_cmp}
 use Rattle.calvin_lock.specs.Ready.{Requested, Conflict, IsReady}
 use Rattle.calvin_lock.specs.Local.{local_sets, ConflictAt, IsReadyAt, IsLockedAs}
 use Rattle.calvin_lock.specs.Locking.{IsNoKey}
-use Rattle.calvin_lock.proofs.PlaceOrder.{place_total}
+use Rattle.calvin_types.proofs.PlaceOrder.{place_total}
 use Rattle.calvin_lock.proofs.Conflicts.{or_left, or_right, of_either, in_first, in_second}
 
 one_key : (a b : Key) → eq_by_cmp key_cmp a b ≡ true → a ≡ b

@@ -14,7 +14,7 @@ use Rattle.calvin_types.specs.declared.place.Place.{Place}
 use Rattle.calvin_types.specs.Places.{place_cmp, IsBefore}
 use Rattle.calvin_lock.specs.Ready.{Conflict, IsReady, IsPast, IsFirstReady}
 use Rattle.calvin_lock.specs.ListOrder.{UpTo, IsAt, IsFree, IsInOrder}
-use Rattle.calvin_lock.proofs.PlaceOrder.{place_total, place_exact, not_before_itself, not_both, one_place, same_itself, not_same}
+use Rattle.calvin_types.proofs.PlaceOrder.{place_total, place_exact, not_before_itself, not_both, one_place, same_itself, not_same}
 
 first : (a b : Bool) → T (a && b) → T a
 first true b p = tt

@@ -7,7 +7,7 @@ use Rattle.std.specs.FinMap.{code}
 use Rattle.calvin_types.specs.declared.key.Key.{Key}
 use Rattle.calvin_types.specs.declared.key_set.Sets.{Sets}
 use Rattle.calvin_types.specs.declared.place.Place.{Place}
-use Rattle.calvin_types.specs.KeyCode.{coded_key}
+use Rattle.calvin_types.specs.Codes.{coded_key}
 use Rattle.calvin_lock.specs.Ready.{Requested}
 use Rattle.calvin_lock.specs.Locking.{Locking}
 

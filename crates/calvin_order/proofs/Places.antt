@@ -1,23 +1,14 @@
--- The order of places: by epoch first, and no two before each other.
+-- The order of places: by epoch first, then by number.
 use Rattle.std.proofs.Common.{◌≡◌, ℕ, false, ◌<◌, ◌≤◌, ◌⊎◌, inl, inr, refl, sym, ap, subst, ◌∙◌, arith}
 use Rattle.std.specs.declared.cmp.Ordering.{Ordering}
 use Rattle.std.specs.declared.cmp.Ordering.TheVariants.{Less, Equal, Greater}
 use Rattle.std.specs.Ordering.{nat_cmp, ordering_then, is_lt}
-use Rattle.std.specs.Cmp.{IsTotalOrder, nat_cmp_is, nat_cmp_total, tied_itself}
+use Rattle.std.specs.Cmp.{nat_cmp_is}
 use Rattle.std.proofs.lemmas.Bool.{cases_lt}
-use Rattle.std.proofs.lemmas.Cmp.{then_total, on_total}
 use Rattle.calvin_types.specs.declared.place.Place.{Place}
-use Rattle.calvin_types.specs.Places.{place_cmp, IsBefore}
+use Rattle.calvin_types.specs.Places.{IsBefore}
+use Rattle.calvin_types.proofs.PlaceOrder.{not_before_itself, not_both}
 use Rattle.calvin_order.specs.Merged.{end_of}
-
-pub place_total : IsTotalOrder place_cmp
-place_total = then_total (on_total (λ (q : Place). q.epoch) nat_cmp_total) (on_total (λ (q : Place). q.n) nat_cmp_total)
-
-pub not_before_itself : (a : Place) → IsBefore a a → ⊥
-not_before_itself a h = let t = tied_itself place_total a in absurd (cc)
-
-pub not_both : (a b : Place) → IsBefore a b → IsBefore b a → ⊥
-not_both a b h g = not_before_itself a (place_total.trans a b a h g)
 
 pub before_by_epoch : (a b : Place) → a.epoch < b.epoch → IsBefore a b
 before_by_epoch a b h = ap (λ r. ordering_then r (nat_cmp a.n b.n)) (sym (nat_cmp_is a.epoch b.epoch Less h))

@@ -3,13 +3,9 @@ use Rattle.std.specs.Prelude.{ℕ, List, refl}
 use Rattle.std.specs.Coded.{Coded, code_by, coded×, coded_ℕ, coded_list}
 use Rattle.std.specs.FinMap.{code}
 use Rattle.calvin_types.specs.declared.key.Key.{Key}
-use Rattle.calvin_types.specs.declared.place.Slot.{Slot}
 use Rattle.calvin_types.specs.declared.txn.Txn.{Txn}
-use Rattle.calvin_types.specs.KeyCode.{coded_key}
+use Rattle.calvin_types.specs.Codes.{coded_key, coded_slot}
 use Rattle.calvin_order.specs.Merging.{Batches, Holding, Merging}
-
-abbrev pub coded_slot : Coded Slot
-coded_slot = code_by (ℕ × ℕ) (coded× coded_ℕ coded_ℕ) (λ s. (s.epoch, s.group)) (λ p. record { epoch = p.0; group = p.1 }) (λ _. refl)
 
 module _ {Args : Type 0} (args : Coded Args) where
   abbrev pub coded_txn : Coded (Txn Args)

@@ -143,6 +143,6 @@ fn append<Args: Copy>(epoch: u64, txns: &[Txn<Args>], out: &mut Vec<(Place, Txn<
 {
     for txn in txns {
         let n = out.len() as u32;
-        out.push((Place { epoch, n }, *txn)).unwrap();
+        out.push_reserved((Place { epoch, n }, *txn));
     }
 }

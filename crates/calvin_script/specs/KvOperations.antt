@@ -1,7 +1,7 @@
 -- The operations of the application Kv as they are written.
 --     kv_operation d      `["put",k,v]`, `["get",[k, ..]]` or `["add",k,d]`
 --     kv_grammar      Kv's name, its operations, and the sets of each on the empty view
-use Rattle.std.specs.Prelude.{◌^◌, if◌then◌else◌, Option, Some, option_and_then, is_none, codes, bytes_eq}
+use Rattle.std.specs.Prelude.{ℕ, ◌^◌, if◌then◌else◌, Option, Some, option_and_then, option_map, is_none, codes, bytes_eq}
 use Rattle.std.specs.FinMap as finmap
 use Rattle.serde_json.specs.Data.{Data}
 use Rattle.serde_json.specs.Find.{at, as_str}
@@ -19,12 +19,16 @@ row_key d = do
   id ← below (2 ^ 64) d
   Some (record { table = 0; id = id })
 
+-- the two numbers that follow the name of an operation, and nothing after them
+unfoldable pub two_numbers : Data → Option (ℕ × ℕ)
+two_numbers d = only_if (is_none (at 3 d)) (do
+  first ← option_and_then (below (2 ^ 64)) (at 1 d)
+  second ← option_and_then (below (2 ^ 64)) (at 2 d)
+  Some (first, second))
+
 -- `["put",k,v]`
 unfoldable pub put : Data → Option KvRequest
-put d = only_if (is_none (at 3 d)) (do
-  id ← option_and_then (below (2 ^ 64)) (at 1 d)
-  value ← option_and_then (below (2 ^ 64)) (at 2 d)
-  Some (Put id value))
+put d = option_map (λ n. Put n.0 n.1) (two_numbers d)
 
 -- `["get",[k, ..]]`, at most 16 keys, none twice
 unfoldable pub get_of : Data → Option KvRequest
@@ -34,10 +38,7 @@ get_of d = only_if (is_none (at 2 d)) (do
 
 -- `["add",k,d]`
 unfoldable pub add : Data → Option KvRequest
-add d = only_if (is_none (at 3 d)) (do
-  id ← option_and_then (below (2 ^ 64)) (at 1 d)
-  amount ← option_and_then (below (2 ^ 64)) (at 2 d)
-  Some (Add id amount))
+add d = option_map (λ n. Add n.0 n.1) (two_numbers d)
 
 unfoldable pub kv_operation : Data → Option KvRequest
 kv_operation d = do

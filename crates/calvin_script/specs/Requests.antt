@@ -1,6 +1,6 @@
 -- Requests as they are written.
 --     txn grammar d      `{"client":C,"number":N,"op":OP}`, with optional `"attempt":A` and `"reads":[KEY, ..],"writes":[KEY, ..]`
-use Rattle.std.specs.Prelude.{ℕ, ◌^◌, ◌&&◌, ◌==◌, List, [], ◌∷◌, length, Bool, not, Option, Some, None, option_and_then, codes}
+use Rattle.std.specs.Prelude.{ℕ, ◌^◌, ◌&&◌, ◌==◌, List, [], ◌∷◌, length, Bool, not, Option, Some, None, codes}
 use Rattle.serde_json.specs.Data.{Data, object, no_members, member}
 use Rattle.serde_json.specs.Find.{get}
 use Rattle.calvin_types.specs.declared.key_set.Sets.{Sets}
@@ -38,13 +38,18 @@ has_key sets = not ((length sets.reads == 0) && (length sets.writes == 0))
 abbrev pub txn_names : List (List ℕ)
 txn_names = codes "client" ∷ codes "number" ∷ codes "op" ∷ codes "attempt" ∷ codes "reads" ∷ codes "writes" ∷ []
 
+-- a request of this name and attempt, from its operation and the sets that may be declared
+unfoldable pub named : {Args : Type 0} → Grammar Args → RequestId → ℕ → Data → Option Data → Option Data → Option (Txn Args)
+named grammar id attempt op reads writes = do
+  args ← grammar.operation op
+  sets ← sets_or (grammar.first_needs args) reads writes
+  only_if (has_key sets) (Some (record { id = id; attempt = attempt; args = args; sets = sets }))
+
 -- a request from the members that every one has, its attempt, and the sets that may be declared
 unfoldable pub txn_of : {Args : Type 0} → Grammar Args → Data → Data → Data → ℕ → Option Data → Option Data → Option (Txn Args)
 txn_of grammar client own_number op attempt reads writes = do
   id ← id_of client own_number
-  args ← grammar.operation op
-  sets ← sets_or (grammar.first_needs args) reads writes
-  only_if (has_key sets) (Some (record { id = id; attempt = attempt; args = args; sets = sets }))
+  named grammar id attempt op reads writes
 
 unfoldable pub txn : {Args : Type 0} → Grammar Args → Data → Option (Txn Args)
 txn grammar d = only_if (has_only txn_names d) (do
@@ -57,3 +62,7 @@ txn grammar d = only_if (has_only txn_names d) (do
 -- an object that has these members and no others
 abbrev pub with_these_alone : Data → Data → Data → Data
 with_these_alone client own_number op = object (member (codes "client") client (member (codes "number") own_number (member (codes "op") op no_members)))
+
+-- an object that has these members, both sets and no others
+abbrev pub with_sets_alone : Data → Data → Data → Data → Data → Data
+with_sets_alone client own_number op reads writes = object (member (codes "client") client (member (codes "number") own_number (member (codes "op") op (member (codes "reads") reads (member (codes "writes") writes no_members)))))

@@ -1,5 +1,5 @@
 //! Keys, and sets of keys.
-ghost use Rattle.std.specs.Prelude.{◌≡◌, ◌≤◌, length, IsTrue, Option};
+ghost use Rattle.std.specs.Prelude.{◌≡◌, ◌≤◌, [], length, IsTrue, Option, option_map};
 ghost use Rattle.serde_json.specs.Data.{Data};
 ghost use Rattle.serde_json.specs.View.{view};
 ghost use Rattle.calvin_types.specs.declared.key.Key.{Key};
@@ -49,18 +49,18 @@ fn is_added(keys: &mut KeySet, key: Key) -> bool
     added && size < keys.len()
 }
 
-/// The set that a list of at most 16 keys spells, in any order and none twice.
+/// Adds the keys that a list spells, at most 16 in any order and none twice, to a set that has none.
 #[tactic(auto, unfolding(crate::specs::KeyLists::key_set), using(crate::proofs::KeySets::items_more, crate::proofs::KeySets::items_refused, crate::proofs::KeySets::grown_end))]
-pub fn key_set_of<F: KeyForm>(value: &Value) -> Option<KeySet>
-    ensures { result ≡ key_set F.form (view value.now) }
+pub fn read_key_set<F: KeyForm>(value: &Value, keys: &mut KeySet) -> Option<()>
+    requires { keys.old ≡ [] }
+    ensures { key_set F.form (view value.now) ≡ option_map (λ _. keys.new) result }
 {
     let items = value.as_array()?;
-    let mut keys = KeySet::new();
     for item in items {
         let key = F::key_of(item)?;
-        if !is_added(&mut keys, key) {
+        if !is_added(keys, key) {
             return None;
         }
     }
-    Some(keys)
+    Some(())
 }

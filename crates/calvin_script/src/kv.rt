@@ -1,13 +1,14 @@
 //! The operations of the application Kv.
-ghost use Rattle.std.specs.Prelude.{◌≡◌};
+ghost use Rattle.std.specs.Prelude.{◌≡◌, [], option_map};
 ghost use Rattle.serde_json.specs.View.{view};
-ghost use Rattle.calvin_script.specs.KvOperations.{put, get_of, add};
+ghost use Rattle.calvin_app.specs.declared.kv.KvRequest.TheVariants.{Get};
+ghost use Rattle.calvin_script.specs.KvOperations.{two_numbers, get_of};
 
 use crate::fields::u64_of;
-use crate::key_list::{KeyForm, key_set_of};
+use crate::key_list::{KeyForm, read_key_set};
 use crate::operation::Operation;
 use calvin_app::KvRequest;
-use calvin_types::{Key, Sets};
+use calvin_types::{Key, KeySet, Sets};
 use serde_json::Value;
 
 /// A key of table 0, written as its number there.
@@ -24,39 +25,29 @@ impl KeyForm for RowNumber {
     }
 }
 
-#[tactic(auto, unfolding(crate::specs::KvOperations::put))]
-fn put_of(value: &Value) -> Option<KvRequest>
-    ensures { result ≡ put (view value.now) }
+/// The two numbers that follow the name of an operation.
+#[tactic(auto, unfolding(crate::specs::KvOperations::two_numbers))]
+fn two_numbers(value: &Value) -> Option<(u64, u64)>
+    ensures { result ≡ two_numbers (view value.now) }
 {
     if value.get(3).is_some() {
         return None;
     }
-    let id = u64_of(value.get(1)?)?;
-    let number = u64_of(value.get(2)?)?;
-    Some(KvRequest::Put(id, number))
+    let first = u64_of(value.get(1)?)?;
+    let second = u64_of(value.get(2)?)?;
+    Some((first, second))
 }
 
+/// The keys of a get.
 #[tactic(auto, unfolding(crate::specs::KvOperations::get_of))]
-fn get_of(value: &Value) -> Option<KvRequest>
-    ensures { result ≡ get_of (view value.now) }
+fn keys_of(value: &Value, keys: &mut KeySet) -> Option<()>
+    requires { keys.old ≡ [] }
+    ensures { get_of (view value.now) ≡ option_map (λ _. Get keys.new) result }
 {
     if value.get(2).is_some() {
         return None;
     }
-    let keys = key_set_of::<RowNumber>(value.get(1)?)?;
-    Some(KvRequest::Get(keys))
-}
-
-#[tactic(auto, unfolding(crate::specs::KvOperations::add))]
-fn add_of(value: &Value) -> Option<KvRequest>
-    ensures { result ≡ add (view value.now) }
-{
-    if value.get(3).is_some() {
-        return None;
-    }
-    let id = u64_of(value.get(1)?)?;
-    let amount = u64_of(value.get(2)?)?;
-    Some(KvRequest::Add(id, amount))
+    read_key_set::<RowNumber>(value.get(1)?, keys)
 }
 
 impl Operation for KvRequest {
@@ -68,23 +59,31 @@ impl Operation for KvRequest {
         "kv"
     }
 
-    #[inline(always)]
-    #[tactic(auto, unfolding(crate::specs::KvOperations::kv_operation))]
-    fn from_json(value: &Value) -> Option<KvRequest> {
-        let name = value.get(0)?.as_str()?;
-        if name == "put" {
-            put_of(value)
-        } else if name == "get" {
-            get_of(value)
-        } else if name == "add" {
-            add_of(value)
-        } else {
-            None
-        }
+    fn blank() -> KvRequest {
+        KvRequest::Put(0, 0)
     }
 
-    #[inline(always)]
-    fn first_sets(&self) -> Sets {
-        self.needs()
+    #[tactic(auto, unfolding(crate::specs::KvOperations::kv_operation, crate::specs::KvOperations::put, crate::specs::KvOperations::add))]
+    fn read(&mut self, value: &Value) -> Option<()> {
+        let name = value.get(0)?.as_str()?;
+        if name == "put" {
+            let (id, number) = two_numbers(value)?;
+            *self = KvRequest::Put(id, number);
+        } else if name == "get" {
+            *self = KvRequest::Get(KeySet::new());
+            if let KvRequest::Get(keys) = self {
+                keys_of(value, keys)?;
+            }
+        } else if name == "add" {
+            let (id, amount) = two_numbers(value)?;
+            *self = KvRequest::Add(id, amount);
+        } else {
+            return None;
+        }
+        Some(())
+    }
+
+    fn add_first_sets(&self, sets: &mut Sets) {
+        self.add_needs(sets);
     }
 }

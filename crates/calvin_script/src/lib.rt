@@ -14,7 +14,7 @@ mod request;
 mod script;
 
 pub use contents::{Epoch, GroupBatch, Script};
-pub use key_list::{KeyForm, WholeKey, key_set_of};
+pub use key_list::{KeyForm, WholeKey, read_key_set};
 pub use operation::Operation;
 pub use reading::script_from;
 

@@ -1,5 +1,5 @@
 //! What an application adds to the form of scripts.
-ghost use Rattle.std.specs.Prelude.{◌≡◌};
+ghost use Rattle.std.specs.Prelude.{◌≡◌, [], option_map};
 ghost use Rattle.serde_json.specs.View.{view};
 ghost use Rattle.calvin_script.specs.Grammar.{Grammar};
 
@@ -15,11 +15,15 @@ pub trait Operation: Copy {
     fn app_name() -> &'static str
         ensures { result.now ≡ grammar.app_name };
 
-    /// The operation that a piece of JSON spells.
-    fn from_json(value: &Value) -> Option<Self>
-        ensures { result ≡ grammar.operation (view value.now) };
+    /// Any operation: it stands in a request until that is read.
+    fn blank() -> Self;
 
-    /// The keys that the operation reads and writes where no row is known yet.
-    fn first_sets(&self) -> Sets
-        ensures { result ≡ grammar.first_needs self.now };
+    /// Becomes the operation that a piece of JSON spells, if it spells one.
+    fn read(&mut self, value: &Value) -> Option<()>
+        ensures { grammar.operation (view value.now) ≡ option_map (λ _. self.new) result };
+
+    /// Adds the keys that the operation reads and writes where no row is known yet, to sets that have none.
+    fn add_first_sets(&self, sets: &mut Sets)
+        requires { sets.old ≡ record { reads = []; writes = [] } }
+        ensures { sets.new ≡ grammar.first_needs self.now };
 }

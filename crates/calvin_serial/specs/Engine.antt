@@ -8,7 +8,7 @@ use Rattle.std.specs.Prelude.{◌≡◌, ℕ, ◌<◌, List, ◌++◌, length, m
 use Rattle.std.specs.FinMap.{empty}
 use Rattle.std.specs.Io.KnownBytes.{Appends}
 use Rattle.calvin_types.specs.declared.fault.Fault.{Fault}
-use Rattle.calvin_types.specs.declared.fault.Fault.TheVariants.{OutOfMemory, TooManyKeys, Repeated, BadConfig, TooLong, LocksOutOfOrder, NoKeys, NotHeld, RoundsSpent, NotCurrent, Known, NotComplete, BadJson, BadScript, ScriptTooLong, ReadFailed, WriteFailed}
+use Rattle.calvin_types.specs.declared.fault.Fault.TheVariants.{OutOfMemory, TooManyKeys, Repeated, BadConfig, TooLong, LocksOutOfOrder, NoKeys, NotHeld, RoundsSpent, NotCurrent, Known, NotComplete, NoNode, NoPacket, BadJson, BadScript, ScriptTooLong, ReadFailed, WriteFailed}
 use Rattle.calvin_app.specs.Meaning.{Meaning}
 use Rattle.calvin_app.specs.Serial.{serial}
 use Rattle.calvin_app.specs.Kv.{kv}
@@ -46,6 +46,8 @@ Refuses RoundsSpent answer = ⊥
 Refuses NotCurrent answer = ⊥
 Refuses Known answer = ⊥
 Refuses NotComplete answer = ⊥
+Refuses NoNode answer = ⊥
+Refuses NoPacket answer = ⊥
 Refuses BadJson answer = answer ≡ Err BadJson
 Refuses BadScript answer = answer ≡ Err BadScript
 Refuses ScriptTooLong answer = answer ≡ Err ScriptTooLong

@@ -16,6 +16,7 @@ pub(crate) trait Printed {
 }
 
 /// Adds a number.
+#[inline(always)]
 pub(crate) fn push_number(text: &mut Vec<u8>, n: u64) -> Result<(), AllocError>
     ensures { OnOk result (text.new.items ≡ text.old.items ++ decimal n) }
 {
@@ -28,6 +29,7 @@ pub(crate) fn push_number(text: &mut Vec<u8>, n: u64) -> Result<(), AllocError>
 }
 
 /// Adds a number, or that there is none.
+#[inline(always)]
 fn push_value(text: &mut Vec<u8>, value: Option<u64>) -> Result<(), AllocError>
     ensures { OnOk result (text.new.items ≡ text.old.items ++ value_text value) }
 {
@@ -59,11 +61,11 @@ impl Printed for KvReply {
     ghost printed = { kv_text };
 
     fn push_to(&self, text: &mut Vec<u8>) -> Result<(), AllocError> {
-        match *self {
+        match self {
             KvReply::Done => text.extend_from_slice(b"done"),
             KvReply::Limit => text.extend_from_slice(b"limit"),
-            KvReply::Value(sum) => push_value(text, Some(sum)),
-            KvReply::Values(values) => push_values(text, &values),
+            KvReply::Value(sum) => push_value(text, Some(*sum)),
+            KvReply::Values(values) => push_values(text, values),
         }
     }
 }

@@ -78,8 +78,10 @@ where
     ensures only { IsOkUnless result Fault.OutOfMemory }
 {
     for (place, txn) in order {
-        let answer = store.apply(txn)?;
-        push_line(text, *place, txn.id, &answer)?;
+        match &store.apply(txn) {
+            Ok(answer) => push_line(text, *place, txn.id, answer)?,
+            Err(fault) => return Err(*fault),
+        }
     }
     Ok(())
 }

@@ -17,7 +17,7 @@ pub struct Snapshot<Row> {
 impl<Row> Model for Snapshot<Row> {
     ghost use Rattle.std.specs.FinMap as map;
     ghost use Rattle.calvin_types.specs.Keys.{key_cmp};
-    ghost use Rattle.calvin_types.specs.KeyCode.{coded_key};
+    ghost use Rattle.calvin_types.specs.Codes.{coded_key};
     ghost use Rattle.calvin_app.specs.Entries.{shown, rising, entries_kept};
 
     ghost Value = { map.FinMap key_cmp Row };

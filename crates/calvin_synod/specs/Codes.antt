@@ -4,6 +4,7 @@ use Rattle.std.specs.Coded.{Coded, code_by, coded×, coded_ℕ, coded_bool, code
 use Rattle.std.specs.FinMap.{FinMap, code}
 use Rattle.calvin_types.specs.declared.place.Ballot.{Ballot}
 use Rattle.calvin_types.specs.declared.place.Slot.{Slot}
+use Rattle.calvin_types.specs.Codes.{coded_slot}
 use Rattle.calvin_types.specs.Places.{slot_cmp}
 use Rattle.calvin_synod.specs.declared.vote.Vote.{Vote}
 use Rattle.calvin_synod.specs.declared.vote.Recorded.{Recorded}
@@ -15,9 +16,6 @@ use Rattle.calvin_synod.specs.States.{BySlot, Tallied, AcceptorState, ProposerSt
 
 abbrev pub coded_ballot : Coded Ballot
 coded_ballot = code_by (ℕ × ℕ) (coded× coded_ℕ coded_ℕ) (λ b. (b.round, b.replica)) (λ p. record { round = p.0; replica = p.1 }) (λ _. refl)
-
-abbrev pub coded_slot : Coded Slot
-coded_slot = code_by (ℕ × ℕ) (coded× coded_ℕ coded_ℕ) (λ s. (s.epoch, s.group)) (λ p. record { epoch = p.0; group = p.1 }) (λ _. refl)
 
 abbrev pub coded_proposal : Coded Proposal
 coded_proposal = code_by (Slot × Ballot) (coded× coded_slot coded_ballot) (λ p. (p.slot, p.ballot)) (λ p. record { slot = p.0; ballot = p.1 }) (λ _. refl)

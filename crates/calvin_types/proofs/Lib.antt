@@ -2,4 +2,5 @@ pub mod Fews
 pub mod HashMaps
 pub mod KeyLists
 pub mod ListTests
+pub mod PlaceOrder
 pub mod Risings

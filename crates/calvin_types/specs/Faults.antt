@@ -3,7 +3,7 @@
 --     name_of fault      its name, as the codes of its letters
 use Rattle.std.specs.Prelude.{ℕ, List, codes}
 use Rattle.calvin_types.specs.declared.fault.Fault.{Fault}
-use Rattle.calvin_types.specs.declared.fault.Fault.TheVariants.{OutOfMemory, TooManyKeys, Repeated, BadConfig, TooLong, LocksOutOfOrder, NoKeys, NotHeld, RoundsSpent, NotCurrent, Known, NotComplete, BadJson, BadScript, ScriptTooLong, ReadFailed, WriteFailed}
+use Rattle.calvin_types.specs.declared.fault.Fault.TheVariants.{OutOfMemory, TooManyKeys, Repeated, BadConfig, TooLong, LocksOutOfOrder, NoKeys, NotHeld, RoundsSpent, NotCurrent, Known, NotComplete, NoNode, NoPacket, BadJson, BadScript, ScriptTooLong, ReadFailed, WriteFailed}
 
 -- the number of a fault, by which programs tell refusals apart
 abbrev pub number_of : Fault → ℕ
@@ -19,6 +19,8 @@ number_of RoundsSpent = 20
 number_of NotCurrent = 21
 number_of Known = 22
 number_of NotComplete = 34
+number_of NoNode = 60
+number_of NoPacket = 61
 number_of BadJson = 90
 number_of BadScript = 91
 number_of ScriptTooLong = 92
@@ -39,6 +41,8 @@ name_of RoundsSpent = codes "RoundsSpent"
 name_of NotCurrent = codes "NotCurrent"
 name_of Known = codes "Known"
 name_of NotComplete = codes "NotComplete"
+name_of NoNode = codes "NoNode"
+name_of NoPacket = codes "NoPacket"
 name_of BadJson = codes "BadJson"
 name_of BadScript = codes "BadScript"
 name_of ScriptTooLong = codes "ScriptTooLong"

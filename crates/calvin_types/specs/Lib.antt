@@ -1,7 +1,7 @@
+pub mod Codes
 pub mod Exact
 pub mod Faults
 pub mod Few
-pub mod KeyCode
 pub mod KeyList
 pub mod KeyOrder
 pub mod KeyPlaces

@@ -152,6 +152,8 @@ fn faults(rt: HostRuntime) -> Result<(), Fail> {
         (Fault::NotCurrent, 21, "NotCurrent"),
         (Fault::Known, 22, "Known"),
         (Fault::NotComplete, 34, "NotComplete"),
+        (Fault::NoNode, 60, "NoNode"),
+        (Fault::NoPacket, 61, "NoPacket"),
         (Fault::BadJson, 90, "BadJson"),
         (Fault::BadScript, 91, "BadScript"),
         (Fault::ScriptTooLong, 92, "ScriptTooLong"),

@@ -44,6 +44,12 @@ pub enum Fault {
     /// The batch of a group isn't held yet.
     #[error("NotComplete")]
     NotComplete,
+    /// There is no such replica.
+    #[error("NoNode")]
+    NoNode,
+    /// No packet has the number.
+    #[error("NoPacket")]
+    NoPacket,
     /// The bytes of a script aren't JSON.
     #[error("BadJson")]
     BadJson,
@@ -79,6 +85,8 @@ impl Fault {
             Fault::NotCurrent => 21,
             Fault::Known => 22,
             Fault::NotComplete => 34,
+            Fault::NoNode => 60,
+            Fault::NoPacket => 61,
             Fault::BadJson => 90,
             Fault::BadScript => 91,
             Fault::ScriptTooLong => 92,
@@ -104,6 +112,8 @@ impl Fault {
             Fault::NotCurrent => "NotCurrent",
             Fault::Known => "Known",
             Fault::NotComplete => "NotComplete",
+            Fault::NoNode => "NoNode",
+            Fault::NoPacket => "NoPacket",
             Fault::BadJson => "BadJson",
             Fault::BadScript => "BadScript",
             Fault::ScriptTooLong => "ScriptTooLong",

@@ -1,4 +1,4 @@
-use Rattle.std.proofs.Common.{sym, ◌∙◌, ap, length, arith}
+use Rattle.std.proofs.Common.{sym, ◌∙◌, ap, arith}
 use Rattle.std.specs.FinMap as map
 use Rattle.calvin_app.specs.Entries.{len-shown}
 use Rattle.calvin_app.proofs.view.View.len.Goals as goal

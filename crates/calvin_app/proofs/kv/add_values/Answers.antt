@@ -1,7 +1,7 @@
 use Rattle.std.proofs.Common.{◌++◌, ◌∷◌, [], ◌+◌, ap, ◌∙◌, map, drop, length, length-append, arith}
 use Rattle.std.specs.FinMap as finmap
 use Rattle.calvin_app.proofs.Values.{one_more}
-use Rattle.calvin_app.proofs.kv.values_of.Goals as goal
+use Rattle.calvin_app.proofs.kv.add_values.Goals as goal
 
 pub loop-i-preserved : goal.loop-i-preserved
 loop-i-preserved c = record {

@@ -1,6 +1,6 @@
 use Rattle.std.proofs.Common.{◌≡◌, ◌≤◌, ◌++◌, map, drop, length}
 use Rattle.std.specs.FinMap as finmap
-use Rattle.calvin_app.proofs.kv.values_of.Given as goal
+use Rattle.calvin_app.proofs.kv.add_values.Given as goal
 
 abbrev pub invariant-loop-i : goal.invariant-loop-i
 invariant-loop-i l = record {

@@ -2,7 +2,7 @@ use Rattle.std.proofs.Common.{◌≡◌, ◌≤◌, length, drop}
 use Rattle.serde_json.specs.View.{view, items_view}
 use Rattle.calvin_script.specs.KeyLists.{key_set}
 use Rattle.calvin_script.proofs.KeySets.{grown}
-use Rattle.calvin_script.proofs.key_list.key_set_of.Given as goal
+use Rattle.calvin_script.proofs.key_list.read_key_set.Given as goal
 
 abbrev pub invariant-loop-item : goal.invariant-loop-item
 invariant-loop-item g l = record {
