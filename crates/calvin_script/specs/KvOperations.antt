@@ -1,4 +1,6 @@
 -- The operations of the application Kv as they are written.
+--     two_numbers d      the two numbers that follow the name of an operation, and nothing after them
+--     put d, get_of d, add d      each operation
 --     kv_operation d      `["put",k,v]`, `["get",[k, ..]]` or `["add",k,d]`
 --     kv_grammar      Kv's name, its operations, and the sets of each on the empty view
 use Rattle.std.specs.Prelude.{ℕ, ◌^◌, if◌then◌else◌, Option, Some, option_and_then, option_map, is_none, codes, bytes_eq}

@@ -1,5 +1,12 @@
 -- Requests as they are written.
+--     id_of client own_number      a request's name
+--     declared reads writes      the sets that are declared
+--     sets_or first reads writes      the declared sets, both or neither, else the first ones
+--     has_key sets      there is a key in one of them
+--     named grammar id attempt op reads writes      the request of this name and attempt
+--     txn_of grammar client own_number op attempt reads writes      the request of these members
 --     txn grammar d      `{"client":C,"number":N,"op":OP}`, with optional `"attempt":A` and `"reads":[KEY, ..],"writes":[KEY, ..]`
+--     with_these_alone, with_sets_alone      an object of the three members that every request has;  of these and both sets
 use Rattle.std.specs.Prelude.{ℕ, ◌^◌, ◌&&◌, ◌==◌, List, [], ◌∷◌, length, Bool, not, Option, Some, None, codes}
 use Rattle.serde_json.specs.Data.{Data, object, no_members, member}
 use Rattle.serde_json.specs.Find.{get}

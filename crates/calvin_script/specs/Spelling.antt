@@ -4,6 +4,7 @@
 --     below limit d      the whole number d, which is below the limit
 --     between least most d      the whole number d, which is from the least to the most
 --     list f d      what f gives of each item of the list d
+--     then_one xs spelled      the list xs, and then what is spelled
 --     optional default f member      what f gives of a member, and the default where the member is left out
 use Rattle.std.specs.Prelude.{ℕ, ◌&&◌, List, [], ◌∷◌, ◌++◌, Bool, true, false, nat_lt, nat_le, if◌then◌else◌, Option, Some, None, option_and_then, option_map, bytes_eq}
 use Rattle.std.specs.List.{list_any}
