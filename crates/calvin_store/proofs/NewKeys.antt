@@ -7,15 +7,13 @@ use Rattle.calvin_types.specs.KeyOrder.{key_cmp_total}
 use Rattle.calvin_types.proofs.Fews.{drop_at}
 use Rattle.calvin_app.specs.Rows.{Rows, overwritten}
 use Rattle.calvin_app.specs.Entries.{rising, shown, rising-put, shown-put, len-shown}
+use Rattle.calvin_app.proofs.Views.{len-insert-le}
 use Rattle.calvin_store.specs.Plain.{Kept}
 use Rattle.calvin_store.specs.Room.{new_keys}
 
 module _ {Row : Type 0} where
   len-insert-ge : (m : Rows Row) (k : Key) (r : Row) → map.len m ≤ map.len (map.insert m k r)
   len-insert-ge m k r = subst (λ n. map.len m ≤ n) (sym (map.len-insert key_cmp_total m k r)) (elim (map.contains_key m k) as (λ b. map.len m ≤ cond b (map.len m) (map.len m + 1)) [ true ↦ omega arith | false ↦ omega arith ])
-
-  len-insert-le : (m : Rows Row) (k : Key) (r : Row) → map.len (map.insert m k r) ≤ map.len m + 1
-  len-insert-le m k r = subst (λ n. n ≤ map.len m + 1) (sym (map.len-insert key_cmp_total m k r)) (elim (map.contains_key m k) as (λ b. cond b (map.len m) (map.len m + 1) ≤ map.len m + 1) [ true ↦ omega arith | false ↦ omega arith ])
 
   -- writes take no key away
   pub len-overwritten-ge : (m : Rows Row) (ws : List (Key × Row)) → map.len m ≤ map.len (overwritten m ws)
