@@ -1,9 +1,9 @@
 //! The command line, and how a command ends.
 
-ghost use Rattle.std.specs.Prelude.{◌≡◌, ◌≢◌, ◌+◌, map, codes, IfOk, IfSome, Some, true, ◌⊎◌};
+ghost use Rattle.std.specs.Prelude.{◌≡◌, ◌≢◌, ◌+◌, ◌↔◌, map, codes, IfOk, IfSome, IsTrue, Some, ◌⊎◌};
 ghost use Rattle.std.specs.Io.KnownBytes.{Appends};
 ghost use Rattle.clap.specs.Words.{app_of, subcommand_name_of};
-ghost use Rattle.calvin.specs.Line.{calvin, IsSerial, IsSerialLine};
+ghost use Rattle.calvin.specs.Line.{calvin, IsSerial, IsSerialLine, IsRun, NamesSerial};
 ghost use Rattle.calvin_edge.specs.Complaints.{complaint};
 ghost use Rattle.calvin_serial.specs.Engine.{serial_text, HasText};
 ghost use Rattle.calvin.specs.Statuses.{status_of, IsStatus, HasNoText, Tells};
@@ -79,7 +79,7 @@ fn line<'a>(alloc: Global) -> Result<Command<'a>, AllocError>
 }
 
 fn asks_serial(matches: &ArgMatches<'_>) -> bool
-    ensures { subcommand_name_of matches.now ≡ Some (codes "serial") → result ≡ true }
+    ensures { IsTrue result ↔ (subcommand_name_of matches.now ≡ Some (codes "serial")) }
 {
     match matches.subcommand_name() {
         Some(name) => name == "serial",
@@ -88,7 +88,8 @@ fn asks_serial(matches: &ArgMatches<'_>) -> bool
 }
 
 fn parse<'a, W: AsStr>(alloc: Global, words: &'a [W]) -> Result<Wish, Refusal>
-    ensures { IsSerialLine (map W.text words.entry.now) → IsSerial result }
+    ensures serial { IsSerialLine (map W.text words.entry.now) → IsSerial result }
+    ensures only { IsRun result → NamesSerial (map W.text words.entry.now) }
 {
     let Ok(command) = line(alloc) else {
         return Err(Refusal::OutOfMemory);
@@ -152,6 +153,8 @@ pub fn command<W: AsStr, S: Source, K: Sink, E: Sink>(
     error: &mut E,
 ) -> u8
     ensures statuses { IsStatus result }
+    // A line that doesn't name `serial` reads nothing.
+    ensures idle { ¬ NamesSerial (map W.text words.now) → input.new ≡ input.old }
     // Where all went well, nothing is said.
     ensures silent { result ≡ 0 → error.new ≡ error.old }
     // `calvin serial` that ends well wrote the text for the script.
