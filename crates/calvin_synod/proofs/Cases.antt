@@ -1,5 +1,5 @@
 -- Every case of the synod is right at every slot, in whatever world it happens.
-use Rattle.std.proofs.Common.{◌≡◌, ◌≢◌, ℕ, ◌+◌, ◌<◌, ◌≤◌, ◌^◌, Bool, true, false, true≢false, cond, ◌||◌, [], ◌∷◌, ◌++◌, ◌⊎◌, inl, inr, ⊎_elim, refl, sym, ap, ◌∙◌, subst, arith, Option, Some, None, List}
+use Rattle.std.proofs.Common.{◌≡◌, ◌≢◌, ℕ, ◌+◌, ◌<◌, ◌≤◌, ◌^◌, Bool, true, false, true≢false, cond, ◌||◌, [], ◌∷◌, ◌++◌, ◌⊎◌, inl, ⊎_elim, refl, sym, ap, ◌∙◌, subst, arith, Option, Some, None, List}
 use Rattle.std.specs.Prelude.{nat_eq, nat_lt, max, is_some}
 use Rattle.std.specs.Option.{unwrap_or}
 use Rattle.std.specs.List.{list_any, IsDistinct}
@@ -13,7 +13,6 @@ use Rattle.calvin_synod.specs.declared.vote.Recorded.{Recorded}
 use Rattle.calvin_synod.specs.declared.message.Message.{Message}
 use Rattle.calvin_synod.specs.declared.message.Message.TheVariants.{Prepare, Promise, Accept, Refused, Accepted}
 use Rattle.calvin_synod.specs.Quorums.{IsIn, IsChosen}
-use Rattle.calvin_synod.specs.declared.attempt.Report.{Report}
 use Rattle.calvin_synod.specs.declared.attempt.Attempt.{Attempt}
 use Rattle.calvin_synod.specs.Roles.{promise_in, vote_in, promise_at, vote_at, bars_prepare, bars_accept, promised, voted, batch_of, counts, if_counts, current, with_report, is_enough, counting, sending, next_ballot, started, refused_at, proposal_cmp, Learning, voters_of, knows, completes, learned}
 use Rattle.calvin_synod.specs.Cases.{slot_of, Replica, Letters, Silent, ToOne, ToAll, Deed, Refuses, Does, prepare, accept, counted, promise, refused, accepted, handle, propose, restart, fresh}

@@ -5,7 +5,7 @@ use Rattle.std.specs.List.{AllByRecursion}
 use Rattle.std.specs.Ordering.{is_lt}
 use Rattle.calvin_types.specs.declared.place.Ballot.{Ballot}
 use Rattle.calvin_types.specs.Places.{ballot_cmp}
-use Rattle.calvin_synod.specs.Ballots.{Below, AtMost}
+use Rattle.calvin_synod.proofs.Ballots.{Below, AtMost}
 use Rattle.calvin_synod.specs.Quorums.{IsIn, IsMajority, IsChosen}
 use Rattle.calvin_synod.specs.declared.vote.Vote.{Vote}
 use Rattle.calvin_synod.specs.declared.attempt.Report.{Report}

@@ -1,3 +1,4 @@
+pub mod Ballots
 pub mod Order
 pub mod Majorities
 pub mod Slots

@@ -1,10 +1,10 @@
 -- Hash maps of slots and of proposals, beside the finite maps that their entries are.
-use Rattle.std.proofs.Common.{◌≡◌, ℕ, Bool, true, false, cond, ◌&&◌, List, Option, Some, None, nat_eq, refl, sym, ap, ◌∙◌, eqb-true, eq-eqb, Ordering}
+use Rattle.std.proofs.Common.{◌≡◌, Bool, true, false, cond, ◌&&◌, List, Some, None, nat_eq, refl, sym, ap, ◌∙◌, eqb-true, eq-eqb, Ordering}
 use Rattle.std.proofs.lemmas.Bool.{false≢true}
 use Rattle.std.specs.Ordering.{eq_by_cmp}
 use Rattle.std.specs.Cmp.{IsTotalOrder, eq_by_cmp_equiv}
 use Rattle.std.specs.Map.{lookup}
-use Rattle.std.specs.FinMap.{FinMap, IsAntisymmetric, get, insert, remove, from_entries, get-remove, same_map}
+use Rattle.std.specs.FinMap.{IsAntisymmetric, get, insert, remove, from_entries, get-remove, same_map}
 use Rattle.calvin_types.specs.declared.place.Ballot.{Ballot}
 use Rattle.calvin_types.specs.declared.place.Slot.{Slot}
 use Rattle.calvin_types.specs.Places.{slot_cmp}

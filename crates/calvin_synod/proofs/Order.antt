@@ -5,7 +5,7 @@ use Rattle.std.proofs.lemmas.Cmp.{ranked}
 use Rattle.std.specs.Ordering.{is_lt, is_eq, eq_by_cmp, nat_cmp, ordering_then}
 use Rattle.calvin_types.specs.declared.place.Ballot.{Ballot}
 use Rattle.calvin_types.specs.Places.{ballot_cmp}
-use Rattle.calvin_synod.specs.Ballots.{Below, AtMost}
+use Rattle.calvin_synod.proofs.Ballots.{Below, AtMost}
 
 pub below_itself : {a : Ballot} → Below a a → ⊥
 below_itself {a} h = omega (arith, h.replicas refl)

@@ -1,18 +1,18 @@
 -- The cases of the three roles are steps that the core allows.
-use Rattle.std.proofs.Common.{◌≡◌, ◌≢◌, ℕ, suc, ◌+◌, ◌<◌, ◌≤◌, Bool, true, false, true≢false, cond, not, ◌&&◌, List, [], ◌∷◌, ◌++◌, length, ◌⊎◌, inl, inr, ⊎_elim, refl, sym, ap, ◌∙◌, subst, arith, Option, Some, None, length-append}
+use Rattle.std.proofs.Common.{◌≡◌, ◌≢◌, ℕ, suc, ◌+◌, ◌<◌, ◌≤◌, Bool, true, false, true≢false, cond, not, ◌&&◌, List, [], ◌∷◌, ◌++◌, length, inl, inr, ⊎_elim, refl, sym, ap, ◌∙◌, subst, arith, Option, Some, None, length-append}
 use Rattle.std.specs.Prelude.{nat_eq, nat_le}
 use Rattle.std.specs.List.{list_any, IsDistinct, AllByRecursion}
 use Rattle.std.specs.Ordering.{is_lt, eq_by_cmp}
 use Rattle.calvin_types.specs.declared.place.Ballot.{Ballot}
 use Rattle.calvin_types.specs.Places.{ballot_cmp}
-use Rattle.calvin_synod.specs.Ballots.{AtMost}
-use Rattle.calvin_synod.specs.Quorums.{IsIn, majority, IsMajority, IsChosen}
+use Rattle.calvin_synod.proofs.Ballots.{AtMost}
+use Rattle.calvin_synod.specs.Quorums.{IsIn, majority, IsChosen}
 use Rattle.calvin_synod.specs.declared.vote.Vote.{Vote}
 use Rattle.calvin_synod.specs.declared.attempt.Report.{Report}
 use Rattle.calvin_synod.specs.declared.attempt.Attempt.{Attempt}
 use Rattle.calvin_synod.specs.Roles.{bars_prepare, bars_accept, batch_of, reporters, counts, is_enough}
 use Rattle.calvin_synod.proofs.Order.{at_most_itself, at_most_of_below, at_most_trans, below_at_most, below_from_test, at_most_from_test, same_from_test, same_ballot_or_not}
-use Rattle.calvin_synod.proofs.Majorities.{distinct_none, distinct_push, is_in_cases, is_in_push_cases}
+use Rattle.calvin_synod.proofs.Majorities.{distinct_none, distinct_push, is_in_push_cases}
 use Rattle.calvin_synod.proofs.Core.{Said, Reports, Proposes, Votes, Reaches, Open, VotedFrom, Grows, Sound, Backed}
 use Rattle.calvin_synod.proofs.Replicas.{Seat, Fair, Learned, HoldsAt, AcceptorMoves, ProposerMoves, LearnerMoves}
 

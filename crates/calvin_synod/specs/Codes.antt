@@ -11,7 +11,7 @@ use Rattle.calvin_synod.specs.declared.vote.Recorded.{Recorded}
 use Rattle.calvin_synod.specs.declared.attempt.Report.{Report}
 use Rattle.calvin_synod.specs.declared.attempt.Attempt.{Attempt}
 use Rattle.calvin_synod.specs.declared.tallies.Proposal.{Proposal}
-use Rattle.calvin_synod.specs.Roles.{Records, Proposing, Learning, proposal_cmp}
+use Rattle.calvin_synod.specs.Roles.{Records, proposal_cmp}
 use Rattle.calvin_synod.specs.States.{BySlot, Tallied, AcceptorState, ProposerState, LearnerState}
 
 abbrev pub coded_ballot : Coded Ballot

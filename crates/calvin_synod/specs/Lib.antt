@@ -1,4 +1,3 @@
-pub mod Ballots
 pub mod Cases
 pub mod Codes
 pub mod Quorums

@@ -5,7 +5,6 @@
 --     promised, voted      the records after a promise;  after a vote
 --     Proposing B      the proposer: the rounds used and seen, and for each slot the ballot under way
 --     highest reports      the vote of the greatest ballot that is reported
---     highest_with reports last      the same, of reports and one vote more
 --     batch_of own reports      what is to be accepted: the batch of the highest vote reported, else the own one
 --     counts attempt from ballot      whether a promise counts for an attempt
 --     current p from slot ballot      the attempt for which a promise counts
@@ -18,7 +17,7 @@
 --     voters_of l slot ballot      whose votes are counted for a slot and a ballot
 --     knows, completes      the vote is counted, or the batch was given;  one vote more makes a majority
 --     learned      the learner with one vote more
-use Rattle.std.specs.Prelude.{◌≡◌, ℕ, ◌+◌, ◌≤◌, ◌<◌, Bool, ◌&&◌, ◌||◌, not, List, [], ◌∷◌, ◌++◌, map, Option, Some, None, is_some, length, nat_eq, nat_le, if◌then◌else◌, max}
+use Rattle.std.specs.Prelude.{ℕ, ◌+◌, Bool, ◌&&◌, ◌||◌, not, List, [], ◌∷◌, ◌++◌, map, Option, Some, None, is_some, length, nat_eq, nat_le, if◌then◌else◌, max}
 use Rattle.std.specs.Option.{unwrap_or}
 use Rattle.std.specs.List.{list_any}
 use Rattle.std.specs.declared.cmp.Ordering.{Ordering}
@@ -181,8 +180,3 @@ learned size l from slot ballot =
     if completes size l slot ballot
     then record { counted = remove l.counted (record { slot = slot; ballot = ballot }); given = insert l.given slot ballot }
     else record { counted = insert l.counted (record { slot = slot; ballot = ballot }) (voters_of l slot ballot ++ from ∷ []); given = l.given }
-
--- the vote of the greatest ballot that is reported, or that comes last
-abbrev pub highest_with : {B : Type 0} → List (Report B) → Option (Vote B) → Option (Vote B)
-highest_with [] last = last
-highest_with (report ∷ reports) last = higher report.vote (highest_with reports last)

@@ -1,5 +1,5 @@
 //! One value at most for each slot.
-ghost use Rattle.std.specs.Prelude.{◌≡◌, ◌-◌, ◌<◌, ◌++◌, ◌∷◌, [], length, max, None, IsOk, OnOk, OnErr, IsOkUnless};
+ghost use Rattle.std.specs.Prelude.{◌≡◌, ◌-◌, ◌<◌, ◌++◌, ◌∷◌, [], length, max, is_some, if◌then◌else◌, None, IsOk, OnOk, OnErr, IsOkUnless};
 ghost use Rattle.std.specs.Option.{option_copied, ForSome};
 ghost use Rattle.std.specs.FinMap as map;
 ghost use Rattle.calvin_synod.specs.Roles.{promised};
@@ -90,9 +90,10 @@ impl<V: Drop> BySlot<V> {
 }
 
 impl<B: Drop> BySlot<Recorded<B>> {
-    /// Promises a ballot at a slot. A vote that is recorded stays.
+    /// Promises a ballot at a slot. A vote that is recorded stays. The first record of a slot takes room.
     pub fn promise(&mut self, slot: Slot, ballot: Ballot) -> Result<(), Fault>
         ensures promised { OnOk result (self.new.entries ≡ promised self.old.entries slot ballot) }
+        ensures room { OnOk result (self.new.room ≡ (if is_some (map.get self.old.entries slot) then self.old.room else self.old.room - 1)) }
         ensures unchanged { OnErr result (self.new ≡ self.old) }
         ensures err { IsOkUnless result Fault.OutOfMemory }
         ensures absent { OnErr result (map.get self.old.entries slot ≡ None) }

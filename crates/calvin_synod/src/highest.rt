@@ -1,5 +1,5 @@
 //! The vote of the greatest ballot.
-ghost use Rattle.std.specs.Prelude.{◌≡◌, nat_eq};
+ghost use Rattle.std.specs.Prelude.{◌≡◌, ℕ, ◌++◌, ◌∷◌, [], nat_eq};
 ghost use Rattle.std.specs.Option.{option_copied};
 ghost use Rattle.std.specs.List.{list_any};
 ghost use Rattle.calvin_synod.specs.Roles as roles;
@@ -37,9 +37,9 @@ fn higher_of<'a, B>(first: Option<&'a Vote<B>>, second: Option<&'a Vote<B>>) -> 
     }
 }
 
-/// The vote of the greatest ballot among those reported and one that comes last.
+/// The vote of the greatest ballot among those reported, with one report more, which comes last, whoever it is from.
 pub fn highest<'a, B>(reports: &'a [Report<B>], last: Option<&'a Vote<B>>) -> Option<&'a Vote<B>>
-    ensures { option_copied result ≡ roles.highest_with reports.now (option_copied last.entry) }
+    ensures { (from : ℕ) → option_copied result ≡ roles.highest (reports.now ++ record { from = from; vote = option_copied last.entry } ∷ []) }
 {
     match reports.split_first() {
         Some((report, rest)) => higher_of(report.vote.as_ref(), highest(rest, last)),

@@ -1,6 +1,4 @@
-use Rattle.std.proofs.Common.{◌+◌, ◌||◌, drop, sym, ap, ◌∙◌}
-use Rattle.std.specs.Prelude.{nat_eq}
-use Rattle.std.specs.List.{list_any}
+use Rattle.std.proofs.Common.{sym, ◌∙◌}
 use Rattle.calvin_synod.proofs.Voters.{any_found, any_passed}
 use Rattle.calvin_synod.proofs.learner.has.Goals as goal
 

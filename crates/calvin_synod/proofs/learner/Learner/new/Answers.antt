@@ -1,4 +1,4 @@
-use Rattle.std.proofs.Common.{◌≡◌, true, false, true≢false, sym, subst, arith}
+use Rattle.std.proofs.Common.{true≢false, sym, subst}
 use Rattle.calvin_synod.specs.States.{FewVoters}
 use Rattle.calvin_synod.proofs.Bounds.{no_voters}
 use Rattle.calvin_synod.proofs.learner.Learner.new.Goals as goal

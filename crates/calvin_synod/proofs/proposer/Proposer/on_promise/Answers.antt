@@ -1,4 +1,4 @@
-use Rattle.std.proofs.Common.{◌≡◌, ◌<◌, ◌++◌, ◌∷◌, [], Some, false, sym, ap, ◌∙◌, subst}
+use Rattle.std.proofs.Common.{◌≡◌, ◌<◌, Some, false, sym, ◌∙◌, subst}
 use Rattle.std.specs.FinMap as map
 use Rattle.calvin_synod.specs.Roles as roles
 use Rattle.calvin_synod.specs.States.{FewCounted}

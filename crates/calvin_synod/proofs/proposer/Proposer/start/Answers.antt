@@ -1,4 +1,4 @@
-use Rattle.std.proofs.Common.{◌≡◌, ◌<◌, Some, None, length, true≢false, sym, ap, ◌∙◌, subst}
+use Rattle.std.proofs.Common.{◌≡◌, ◌<◌, Some, None, length, true≢false, sym, ◌∙◌, subst}
 use Rattle.calvin_synod.specs.Quorums.{majority}
 use Rattle.calvin_synod.specs.States.{FewCounted}
 use Rattle.calvin_synod.proofs.Bounds.{few_with, majority_some}
