@@ -95,7 +95,8 @@ pub fn restart<Args: Copy>(
     Ok(None)
 }
 
-/// Sends what a replica sends where it begins a new ballot, and lets it begin it. At a refusal, nothing is sent.
+/// Sends what a replica sends where it begins a new ballot, and lets it begin it. Refused with `OutOfMemory` where a
+/// growth was refused or a batch can have no more owners: then nothing is sent.
 fn post_and_propose<Args: Copy>(
     member: &mut Member<Args>,
     packets: &mut Vec<Packet<Batch<Args>>>,
@@ -123,7 +124,8 @@ fn post_and_propose<Args: Copy>(
     }
 }
 
-/// Sends what a replica sends where it takes a message, and lets it take it. At a refusal, nothing is sent.
+/// Sends what a replica sends where it takes a message, and lets it take it. Refused with `OutOfMemory` where a growth
+/// was refused or a batch can have no more owners: then nothing is sent.
 fn post_and_take<Args: Copy>(
     member: &mut Member<Args>,
     packets: &mut Vec<Packet<Batch<Args>>>,
