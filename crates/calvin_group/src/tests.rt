@@ -172,23 +172,41 @@ fn up_to_the_promises(rt: &impl Abort, alloc: Global) -> Result<Group<u64>, Faul
     Ok(group)
 }
 
-#[test]
-fn new_ballot_keeps_the_vote(rt: HostRuntime) -> Result<(), Fail> {
-    let mut group = up_to_the_promises(&rt, rt.alloc())?;
-    deliver(&rt, &mut group, &[15, 14])?;
+/// The same group, after replica 1 counted both promises.
+fn up_to_the_accepts(rt: &impl Abort, alloc: Global) -> Result<Group<u64>, Fault> {
+    let mut group = up_to_the_promises(rt, alloc)?;
+    deliver(rt, &mut group, &[15, 14])?;
     for to in 0..3 {
-        let want = accept(1, 1, batch_of(rt.alloc(), 7)?);
-        check_sent(&rt, &group, 16 + to as usize, 1, to, want);
+        let want = accept(1, 1, batch_of(alloc, 7)?);
+        check_sent(rt, &group, 16 + to as usize, 1, to, want);
     }
     assert_eq!(rt; group.packets().len(), 19);
-    // The older accept reaches replica 1, which promised the newer ballot.
-    deliver(&rt, &mut group, &[6])?;
-    check_sent(&rt, &group, 19, 1, 0, refused(1, 0, at(1, 1)));
+    Ok(group)
+}
+
+#[test]
+fn new_ballot_keeps_the_vote(rt: HostRuntime) -> Result<(), Fail> {
+    up_to_the_accepts(&rt, rt.alloc())?;
+    Ok(())
+}
+
+/// Replica 1 promised the ballot (1, 1), and cast no vote.
+fn check_promised(rt: &impl Abort, group: &Group<u64>) {
     let want = Recorded {
         promise: at(1, 1),
         vote: None,
     };
     assert!(rt; group.recorded(1, SLOT) == Some(&want));
+}
+
+#[test]
+fn old_ballot_refused(rt: HostRuntime) -> Result<(), Fail> {
+    let mut group = up_to_the_accepts(&rt, rt.alloc())?;
+    check_promised(&rt, &group);
+    deliver(&rt, &mut group, &[6])?;
+    check_sent(&rt, &group, 19, 1, 0, refused(1, 0, at(1, 1)));
+    assert_eq!(rt; group.packets().len(), 20);
+    check_promised(&rt, &group);
     Ok(())
 }
 
