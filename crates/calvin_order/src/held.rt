@@ -88,11 +88,15 @@ impl<Args: Copy> Held<Args> {
     }
 
     /// The requests of the batch for a slot: none where there is no batch.
-    fn requests(&self, slot: Slot) -> &[Txn<Args>]
-        ensures { result.now ≡ batch_at self.now.batches slot }
+    pub fn requests(&self, slot: Slot) -> &[Txn<Args>]
+        ensures requests { result.now ≡ batch_at self.now.batches slot }
+        ensures at_most { length result.now ≤ 256 }
     {
         match self.get(slot) {
-            Some(batch) => batch.as_slice(),
+            Some(batch) => {
+                let _size = batch.len();
+                batch.as_slice()
+            }
             None => &[],
         }
     }

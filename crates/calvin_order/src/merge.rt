@@ -1,5 +1,5 @@
 //! The merge of one node.
-ghost use Rattle.std.specs.Prelude.{◌≡◌, ◌^◌, ◌<◌, ◌≤◌, ◌↔◌, ◌⊎◌, suc, max, is_none, IfOk, IfErr, IsOk, IsNone, IsErrOf, OnOk, OnErr, IsOkUnless, MatchOption};
+ghost use Rattle.std.specs.Prelude.{◌≡◌, ◌^◌, ◌<◌, ◌≤◌, ◌↔◌, ◌⊎◌, suc, length, max, is_none, IfOk, IfErr, IsOk, IsNone, IsErrOf, OnOk, OnErr, IsOkUnless, MatchOption};
 ghost use Rattle.std.specs.Option.{option_copied};
 ghost use Rattle.std.specs.FinMap as map;
 ghost use Rattle.calvin_types.specs.Orders.{Rises};
@@ -94,6 +94,36 @@ impl<Args: Copy> Merge<Args> {
         ensures { MatchOption result (self.now.next ≡ 2 ^ 64) (λ epoch. epoch ≡ self.now.next) }
     {
         self.next
+    }
+
+    /// The requests of a group for the next epoch, as they stand in the batch that is held: none where none is held.
+    pub fn requests(&self, group: u8) -> &[Txn<Args>]
+        ensures requests { result.now ≡ held_by self.now (record { epoch = self.now.next; group = group }) }
+        ensures at_most { length result.now ≤ 256 }
+    {
+        match self.next {
+            Some(epoch) => self.held.requests(Slot { epoch, group }),
+            None => &[],
+        }
+    }
+
+    /// Goes on to the next epoch as `take_epoch` does, for a caller who reads the requests where they stand: none is
+    /// copied. Refused with `NotComplete` where a group's batch isn't held for that epoch, as always once no epoch is
+    /// left. Batches stay held.
+    pub fn pass_epoch(&mut self) -> Result<(), Fault>
+        ensures next { OnOk result (self.new ≡ record self.old { next = suc self.old.next }) }
+        ensures complete { OnOk result (IsComplete self.old) }
+        ensures not_complete { IsErrOf result Fault.NotComplete ↔ ¬ IsComplete self.old }
+        ensures err { IsOkUnless result Fault.NotComplete }
+        ensures unchanged { OnErr result (self.new ≡ self.old) }
+    {
+        match self.next {
+            Some(last) if self.held.has_all(last, self.partitions) => {
+                self.next = last.checked_add(1);
+                Ok(())
+            }
+            _ => Err(Fault::NotComplete),
+        }
     }
 
     /// The requests of the next epoch: whole batches by ascending group, the n-th request at the place (epoch, n).

@@ -69,6 +69,33 @@ fn groups_ascend(rt: HostRuntime) -> Result<(), Fail> {
     Ok(())
 }
 
+/// Reads the requests of a group where they stand, and compares their numbers.
+fn shows(rt: &impl Abort, merge: &Merge<u32>, group: u8, numbers: &[u32]) {
+    let txns = merge.requests(group);
+    assert_eq!(rt; txns.len(), numbers.len());
+    for (number, txn) in numbers.iter().zip(txns.iter()) {
+        assert_eq!(rt; txn.id.number, *number);
+    }
+}
+
+#[test]
+fn requests_where_they_stand(rt: HostRuntime) -> Result<(), Fail> {
+    let alloc = rt.alloc();
+    let mut merge = merge_of(alloc, 2)?;
+    hold(alloc, &mut merge, 0, 1, &[5, 4])?;
+    shows(&rt, &merge, 1, &[5, 4]);
+    shows(&rt, &merge, 0, &[]);
+    assert_eq!(rt; merge.pass_epoch(), Err(Fault::NotComplete));
+    hold(alloc, &mut merge, 0, 0, &[9])?;
+    hold(alloc, &mut merge, 1, 0, &[7])?;
+    shows(&rt, &merge, 0, &[9]);
+    assert_eq!(rt; merge.pass_epoch(), Ok(()));
+    assert_eq!(rt; merge.next(), Some(1));
+    shows(&rt, &merge, 0, &[7]);
+    shows(&rt, &merge, 1, &[]);
+    Ok(())
+}
+
 #[test]
 fn an_empty_batch(rt: HostRuntime) -> Result<(), Fail> {
     let alloc = rt.alloc();

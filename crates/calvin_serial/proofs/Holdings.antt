@@ -75,8 +75,8 @@ module _ {Args : Type 0} (B : Assignment Args) (parts e : ℕ) where
       let held = groups_given parts m h in
       λ g less. subst (λ x. is_some (get (with_groups B e parts m).held (slot_of x g)) ≡ true) (sym held.next_is) (groups_there parts g m (omega (arith, held.as_many, less)))
 
-  -- what is taken is what B gives
-  pub merged_given : (m : Merging Args) → HoldsOnly B parts e m → IsComplete m → merged m.partitions (held_by m) m.next ≡ merged parts B e
+  -- what is held for the next epoch is what B gives
+  merged_given : (m : Merging Args) → HoldsOnly B parts e m → IsComplete m → merged m.partitions (held_by m) m.next ≡ merged parts B e
   merged_given m h complete =
       (λ i. merged (h.as_many i) (held_by m) (h.next_is i))
       ∙ merged_same parts (held_by m) B e (λ g less. go (slot_of e g) (get m.held (slot_of e g)) refl (subst (λ x. is_some (get m.held (slot_of x g)) ≡ true) h.next_is (complete g (omega (arith, h.as_many, less))))) where
@@ -84,8 +84,12 @@ module _ {Args : Type 0} (B : Assignment Args) (parts e : ℕ) where
         go slot None is some = absurd (false≢true (sym (ap is_some is) ∙ some))
         go slot (Some batch) is some = ap (λ o. unwrap_or o []) is ∙ h.given slot batch is
 
-  pub taken_given : (m : Merging Args) → HoldsOnly B parts e m → HoldsOnly B parts (suc e) (record m { next = suc m.next; ready = 0 })
-  taken_given m h = record { as_many = h.as_many; next_is = ap suc h.next_is; given = h.given }
+  -- the same of this epoch and these groups
+  pub placed_given : (m : Merging Args) → HoldsOnly B parts e m → IsComplete m → merged parts (held_by m) e ≡ merged parts B e
+  placed_given m h complete = sym (λ i. merged (h.as_many i) (held_by m) (h.next_is i)) ∙ merged_given m h complete
+
+  pub passed_given : (m : Merging Args) → HoldsOnly B parts e m → HoldsOnly B parts (suc e) (record m { next = suc m.next })
+  passed_given m h = record { as_many = h.as_many; next_is = ap suc h.next_is; given = h.given }
 
 -- a merge that holds nothing
 none_got : {Args : Type 0} (q : Slot) (batch : Batch Args) → get {R = slot_cmp} empty q ≡ Some batch → ⊥

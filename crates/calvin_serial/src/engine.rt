@@ -44,11 +44,8 @@ where
     ensures only { IsOkUnless result Fault.OutOfMemory }
 {
     hold_epoch(alloc, merge, script, epoch)?;
-    let order = match merge.take_epoch() {
-        Ok(order) => order,
-        Err(fault) => return Err(fault),
-    };
-    push_epoch(store, &order, text)
+    push_epoch(store, merge, epoch as u64, script.partitions, text)?;
+    merge.pass_epoch()
 }
 
 /// The text of the serial run of a script.

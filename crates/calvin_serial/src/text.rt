@@ -1,10 +1,13 @@
 //! The lines of a serial run.
-ghost use Rattle.std.specs.Prelude.{◌≡◌, ◌++◌, OnOk, OnErr, IsOkUnless, map};
+ghost use Rattle.std.specs.Prelude.{◌≡◌, ◌+◌, ◌≤◌, ◌++◌, OnOk, OnErr, IsOkUnless, length, map};
+ghost use Rattle.calvin_order.specs.Merged.{merged, numbered};
+ghost use Rattle.calvin_order.specs.Merging.{held_by};
 ghost use Rattle.calvin_app.specs.Serial.{serial};
 ghost use Rattle.calvin_serial.specs.Texts.{place_text, id_text, answer_text, line, lines, finished};
 
 use crate::printed::{Printed, push_number};
 use calvin_app::{Answer, App, Serial};
+use calvin_order::Merge;
 use calvin_types::{Fault, Place, RequestId, Txn};
 use std::alloc::AllocError;
 
@@ -65,23 +68,56 @@ pub(crate) fn push_finished(text: &mut Vec<u8>, epochs: usize) -> Result<(), All
     text.extend_from_slice(b"\n")
 }
 
-/// Runs the requests of an epoch, and adds a line for each.
-pub(crate) fn push_epoch<A: App>(
+/// Runs requests that stand one after another in an epoch, of which so many come before them, and adds a line for each.
+fn push_batch<A: App>(
     store: &mut Serial<A>,
-    order: &[(Place, Txn<A::Args>)],
+    epoch: u64,
+    before: u32,
+    txns: &[Txn<A::Args>],
     text: &mut Vec<u8>,
 ) -> Result<(), Fault>
 where
     A::Reply: Printed,
-    ensures lines { OnOk result (text.new.items ≡ text.old.items ++ lines A.Reply.printed order.now (serial A.meaning (map (λ e. e.1) order.now) store.old).1) }
-    ensures rows { OnOk result (store.new ≡ (serial A.meaning (map (λ e. e.1) order.now) store.old).0) }
+    requires few { before + length txns.now ≤ 4096 }
+    ensures lines { OnOk result (text.new.items ≡ text.old.items ++ lines A.Reply.printed (numbered epoch before txns.now) (serial A.meaning (map (λ e. e.1) (numbered epoch before txns.now)) store.old).1) }
+    ensures rows { OnOk result (store.new ≡ (serial A.meaning (map (λ e. e.1) (numbered epoch before txns.now)) store.old).0) }
     ensures only { IsOkUnless result Fault.OutOfMemory }
 {
-    for (place, txn) in order {
+    let mut n = before;
+    for txn in txns {
         match &store.apply(txn) {
-            Ok(answer) => push_line(text, *place, txn.id, answer)?,
+            Ok(answer) => push_line(text, Place { epoch, n }, txn.id, answer)?,
             Err(fault) => return Err(*fault),
         }
+        n += 1;
+    }
+    Ok(())
+}
+
+/// Runs the requests of the groups below so many for the epoch that a merge takes next, as they stand in the batches
+/// that it holds, and adds a line for each.
+pub(crate) fn push_epoch<A: App>(
+    store: &mut Serial<A>,
+    merge: &Merge<A::Args>,
+    epoch: u64,
+    groups: u8,
+    text: &mut Vec<u8>,
+) -> Result<(), Fault>
+where
+    A::Reply: Printed,
+    requires next { epoch ≡ merge.now.next }
+    requires few { groups ≤ 16 }
+    ensures lines { OnOk result (let placed = merged groups (held_by merge.now) epoch in
+        text.new.items ≡ text.old.items ++ lines A.Reply.printed placed (serial A.meaning (map (λ e. e.1) placed) store.old).1) }
+    ensures rows { OnOk result (let placed = merged groups (held_by merge.now) epoch in
+        store.new ≡ (serial A.meaning (map (λ e. e.1) placed) store.old).0) }
+    ensures only { IsOkUnless result Fault.OutOfMemory }
+{
+    let mut n = 0;
+    for group in 0..groups {
+        let txns = merge.requests(group);
+        push_batch(store, epoch, n, txns, text)?;
+        n += txns.len() as u32;
     }
     Ok(())
 }
