@@ -49,7 +49,8 @@ fn is_added(keys: &mut KeySet, key: Key) -> bool
     added && size < keys.len()
 }
 
-/// Adds the keys that a list spells, at most 16 in any order and none twice, to a set that has none.
+/// Adds the keys that a list spells, at most 16 in any order and none twice, to a set that has none. Where it spells no
+/// such keys there is no answer, and the set may have some of them.
 #[tactic(auto, unfolding(crate::specs::KeyLists::key_set), using(crate::proofs::KeySets::items_more, crate::proofs::KeySets::items_refused, crate::proofs::KeySets::grown_end))]
 pub fn read_key_set<F: KeyForm>(value: &Value, keys: &mut KeySet) -> Option<()>
     requires { keys.old ≡ [] }

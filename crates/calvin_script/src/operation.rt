@@ -18,7 +18,8 @@ pub trait Operation: Copy {
     /// Any operation: it stands in a request until that is read.
     fn blank() -> Self;
 
-    /// Becomes the operation that a piece of JSON spells, if it spells one.
+    /// Becomes the operation that a piece of JSON spells. Where it spells none there is no answer, and any operation
+    /// may stand here.
     fn read(&mut self, value: &Value) -> Option<()>
         ensures { grammar.operation (view value.now) ≡ option_map (λ _. self.new) result };
 
