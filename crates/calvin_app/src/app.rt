@@ -3,8 +3,10 @@ ghost use Rattle.std.specs.Prelude.{◌≡◌, ℕ, Bool};
 ghost use Rattle.std.specs.Mem.{FitsInMemory};
 ghost use Rattle.calvin_app.specs.Meaning.{Meaning, IsLawful, IsExact};
 ghost use Rattle.calvin_app.specs.contracts.view.View.{the_row as the_view_row};
+ghost use Rattle.calvin_app.specs.declared.answer.Answer.TheVariants.{Reply};
 ghost use Rattle.calvin_types.specs.SameKeys.{same_sets};
 
+use crate::answer::Answer;
 use crate::view::View;
 use crate::writes::Writes;
 use calvin_types::Sets;
@@ -60,6 +62,21 @@ pub trait App {
     /// What the request is told and what it writes on these rows. It writes only keys of the writes that it needs.
     fn run(&self, args: &Self::Args, view: &View<Self::Row>) -> (Self::Reply, Writes<Self::Row>)
         ensures { result ≡ meaning.outcome args.now view.now };
+
+    /// The same as `run`, with the reply in place of an answer that is there, so that a large one needn't be moved.
+    fn run_into(
+        &self,
+        args: &Self::Args,
+        view: &View<Self::Row>,
+        answer: &mut Answer<Self::Reply>,
+    ) -> Writes<Self::Row>
+        ensures answer { answer.new ≡ Reply (meaning.outcome args.now view.now).0 }
+        ensures writes { result ≡ (meaning.outcome args.now view.now).1 }
+    {
+        let (reply, writes) = self.run(args, view);
+        *answer = Answer::Reply(reply);
+        writes
+    }
 
     /// The laws of applications.
     ghost lawful: { IsLawful meaning is_dependent key_limit table_limit };

@@ -5,9 +5,11 @@ ghost use Rattle.std.specs.FinMap as finmap;
 ghost use Rattle.std.proofs.Common.{lit<};
 ghost use Rattle.calvin_app.specs.KvExact.{requests_exact, numbers_exact, replies_exact};
 ghost use Rattle.calvin_app.specs.Rows.{Rows};
+ghost use Rattle.calvin_app.specs.declared.answer.Answer.TheVariants.{Reply};
 ghost use Rattle.calvin_app.specs.Kv.{kv, kv_lawful, asked};
 ghost use Rattle.calvin_types.specs.SameKeys.{same_keys};
 
+use crate::answer::Answer;
 use crate::app::App;
 use crate::view::View;
 use crate::writes::Writes;
@@ -79,17 +81,15 @@ fn key_of(id: u64) -> Key
     Key { table: 0, id }
 }
 
-/// Whether a get asks for all of the keys.
+/// Whether a get asks for all of the keys. They rise, so the last one is of the highest table.
 fn asks_for_all(keys: &KeySet) -> bool
     ensures all { result ≡ list_all (λ k. k.table == 0) keys.now }
     ensures at_most { length keys.now ≤ 16 }
 {
-    for i in 0..keys.len() {
-        if keys.at(i).table != 0 {
-            return false;
-        }
+    match keys.len() {
+        0 => true,
+        size => keys.at(size - 1).table == 0,
     }
-    true
 }
 
 /// Adds the keys that a get asks for to a set that has none.
@@ -140,13 +140,18 @@ fn is_none(set: &KeySet) -> bool
     set.len() == 0
 }
 
-/// Adds for each key its number or none, to values that have none yet.
+/// Adds for each key its number or none, to values that have none yet. Keys and rows are gone through together.
 fn add_values(keys: &KeySet, view: &View<u64>, values: &mut Few<Option<u64>>)
     requires { values.old ≡ [] }
     ensures { values.new ≡ map (finmap.get view.now) keys.now }
 {
+    let mut found = 0;
     for i in 0..keys.len() {
-        values.push(view.get(&keys.at(i)));
+        let value = view.get_from(found, &keys.at(i));
+        if value.is_some() {
+            found += 1;
+        }
+        values.push(value);
     }
 }
 
@@ -159,6 +164,40 @@ fn add_asked_values(keys: &KeySet, view: &View<u64>, values: &mut Few<Option<u64
         add_values(keys, view, values);
     } else {
         add_values(&asked(keys), view, values);
+    }
+}
+
+/// Replies to a request, in place of any answer that stands there, and gives what it writes.
+#[inline(always)]
+fn answer_to(args: &KvRequest, view: &View<u64>, answer: &mut Answer<KvReply>) -> Writes<u64>
+    ensures answer { answer.new ≡ Reply (kv.outcome args.now view.now).0 }
+    ensures writes { result ≡ (kv.outcome args.now view.now).1 }
+{
+    match args {
+        KvRequest::Put(id, value) => {
+            *answer = Answer::Reply(KvReply::Done);
+            Writes::of(key_of(*id), *value)
+        }
+        KvRequest::Get(keys) => {
+            *answer = Answer::Reply(KvReply::Values(Few::new()));
+            if let Answer::Reply(KvReply::Values(values)) = answer {
+                add_asked_values(keys, view, values);
+            }
+            Writes::new()
+        }
+        KvRequest::Add(id, amount) => {
+            let before = view.get(&key_of(*id)).unwrap_or(0);
+            match before.checked_add(*amount) {
+                Some(sum) => {
+                    *answer = Answer::Reply(KvReply::Value(sum));
+                    Writes::of(key_of(*id), sum)
+                }
+                None => {
+                    *answer = Answer::Reply(KvReply::Limit);
+                    Writes::new()
+                }
+            }
+        }
     }
 }
 
@@ -204,21 +243,21 @@ impl App for Kv {
     }
 
     fn run(&self, args: &KvRequest, view: &View<u64>) -> (KvReply, Writes<u64>) {
-        match args {
-            KvRequest::Put(id, value) => (KvReply::Done, Writes::of(key_of(*id), *value)),
-            KvRequest::Get(keys) => {
-                let mut values = Few::new();
-                add_asked_values(keys, view, &mut values);
-                (KvReply::Values(values), Writes::new())
-            }
-            KvRequest::Add(id, amount) => {
-                let before = view.get(&key_of(*id)).unwrap_or(0);
-                match before.checked_add(*amount) {
-                    Some(sum) => (KvReply::Value(sum), Writes::of(key_of(*id), sum)),
-                    None => (KvReply::Limit, Writes::new()),
-                }
-            }
+        let mut answer = Answer::Changed;
+        let writes = answer_to(args, view, &mut answer);
+        match answer {
+            Answer::Reply(reply) => (reply, writes),
+            Answer::Changed => unreachable!(),
         }
+    }
+
+    fn run_into(
+        &self,
+        args: &KvRequest,
+        view: &View<u64>,
+        answer: &mut Answer<KvReply>,
+    ) -> Writes<u64> {
+        answer_to(args, view, answer)
     }
 
     ghost lawful = { kv_lawful };

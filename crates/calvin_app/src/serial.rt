@@ -62,14 +62,35 @@ impl<A: App> Serial<A> {
         ensures fresh { A.meaning.needs txn.now.args self.old ≡ txn.now.sets → result ≢ Ok Changed }
         ensures only { IsOkUnless result Fault.OutOfMemory }
     {
-        let mut view = View::new();
-        self.rows.look_up(&txn.sets.reads, &mut view);
-        if !self.app.needs_only(&txn.args, &view, &txn.sets) {
-            return Ok(Answer::Changed);
+        let mut seen = View::new();
+        let mut answer = Answer::Changed;
+        self.apply_into(txn, &mut seen, &mut answer)?;
+        Ok(answer)
+    }
+
+    /// Runs one request as `apply` does, in places that the caller keeps for one request after another: what it sees
+    /// and its answer come in place of those that are there, so that large ones needn't be made and moved. Where it is
+    /// refused, any view and any answer may stand there.
+    #[tactic(auto, unfolding(crate::specs::Serial::answer_on, crate::specs::Serial::writes_on))]
+    pub fn apply_into(
+        &mut self,
+        txn: &Txn<A::Args>,
+        seen: &mut View<A::Row>,
+        answer: &mut Answer<A::Reply>,
+    ) -> Result<(), Fault>
+        ensures answer { OnOk result (answer.new ≡ answer_one A.meaning txn.now self.old) }
+        ensures ok { OnOk result (self.new ≡ after_one A.meaning txn.now self.old) }
+        ensures err { OnErr result (self.new ≡ self.old) }
+        ensures only { IsOkUnless result Fault.OutOfMemory }
+    {
+        seen.clear();
+        self.rows.look_up(&txn.sets.reads, seen);
+        if !self.app.needs_only(&txn.args, seen, &txn.sets) {
+            *answer = Answer::Changed;
+            return Ok(());
         }
-        let outcome = self.app.run(&txn.args, &view);
-        self.rows.overwrite(&outcome.1)?;
-        Ok(Answer::Reply(outcome.0))
+        let writes = self.app.run_into(&txn.args, seen, answer);
+        self.rows.overwrite(&writes)
     }
 
     /// Runs requests one after another, and gives an answer for each. Refused for want of memory alone, and then the

@@ -282,6 +282,62 @@ fn views(rt: HostRuntime) -> Result<(), Fail> {
     assert_eq!(rt; view.get(&key(3)), None);
     let none: View<u64> = View::new();
     assert_eq!(rt; none.get(&key(5)), None);
+    view.clear();
+    assert_eq!(rt; view.get(&key(5)), None);
+    assert_eq!(rt; view.len(), 0);
+    Ok(())
+}
+
+#[test]
+fn views_from_a_place_on(rt: HostRuntime) -> Result<(), Fail> {
+    let mut table = Table::new(rt.alloc());
+    for id in [2, 5, 9] {
+        table.overwrite(&Writes::of(key(id), id * 10))?;
+    }
+    let mut view = View::new();
+    table.look_up(&set(&[2, 5, 9])?, &mut view);
+    // A place, and the numbers of the keys whose rows stand there or later.
+    for (place, left) in [
+        (0, [2, 5, 9].as_slice()),
+        (1, &[5, 9]),
+        (2, &[9]),
+        (3, &[]),
+        (4, &[]),
+    ] {
+        for id in 0..11u64 {
+            let row = if left.contains(&id) {
+                Some(id * 10)
+            } else {
+                None
+            };
+            assert_eq!(rt; view.get_from(place, &key(id)), row);
+        }
+    }
+    Ok(())
+}
+
+#[test]
+fn places_used_again(rt: HostRuntime) -> Result<(), Fail> {
+    let mut serial = Serial::new(rt.alloc(), Kv);
+    let mut seen = View::new();
+    let mut answer = Answer::Changed;
+    let mut values = Few::new();
+    values.push(Some(15));
+    values.push(None);
+    for (args, want) in [
+        (KvRequest::Put(3, 10), KvReply::Done),
+        (KvRequest::Add(3, 5), KvReply::Value(15)),
+        (KvRequest::Get(set(&[3, 4])?), KvReply::Values(values)),
+        (KvRequest::Add(3, u64::MAX), KvReply::Limit),
+        (KvRequest::Get(set(&[3, 4])?), KvReply::Values(values)),
+        (KvRequest::Put(3, 0), KvReply::Done),
+    ] {
+        serial.apply_into(&declared(args), &mut seen, &mut answer)?;
+        assert!(rt; is_reply(&answer, want), "{args:?}");
+    }
+    let stale = txn(KvRequest::Add(3, 1), set(&[5])?, set(&[5])?);
+    serial.apply_into(&stale, &mut seen, &mut answer)?;
+    assert!(rt; answer == Answer::Changed);
     Ok(())
 }
 

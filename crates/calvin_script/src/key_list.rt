@@ -1,10 +1,9 @@
 //! Keys, and sets of keys.
-ghost use Rattle.std.specs.Prelude.{◌≡◌, ◌≤◌, [], length, IsTrue, Option, option_map};
+ghost use Rattle.std.specs.Prelude.{◌≡◌, [], Option, option_map};
 ghost use Rattle.serde_json.specs.Data.{Data};
 ghost use Rattle.serde_json.specs.View.{view};
 ghost use Rattle.calvin_types.specs.declared.key.Key.{Key};
-ghost use Rattle.calvin_types.specs.Keys.{insert_key};
-ghost use Rattle.calvin_script.specs.KeyLists.{key, key_set, takes};
+ghost use Rattle.calvin_script.specs.KeyLists.{key, key_set};
 
 use crate::fields::{u8_of, u64_of};
 use calvin_types::{Key, KeySet};
@@ -38,17 +37,6 @@ impl KeyForm for WholeKey {
     }
 }
 
-/// Adds a key, and says whether it is a new one for which there was room.
-fn is_added(keys: &mut KeySet, key: Key) -> bool
-    ensures whether { result ≡ takes key keys.old }
-    ensures added { IsTrue result → keys.new ≡ insert_key key keys.old }
-    ensures at_most { length keys.new ≤ 16 }
-{
-    let size = keys.len();
-    let added = keys.insert(key).is_ok();
-    added && size < keys.len()
-}
-
 /// Adds the keys that a list spells, at most 16 in any order and none twice, to a set that has none. Where it spells no
 /// such keys there is no answer, and the set may have some of them.
 #[tactic(auto, unfolding(crate::specs::KeyLists::key_set), using(crate::proofs::KeySets::items_more, crate::proofs::KeySets::items_refused, crate::proofs::KeySets::grown_end))]
@@ -59,7 +47,7 @@ pub fn read_key_set<F: KeyForm>(value: &Value, keys: &mut KeySet) -> Option<()>
     let items = value.as_array()?;
     for item in items {
         let key = F::key_of(item)?;
-        if !is_added(keys, key) {
+        if !keys.add(key) {
             return None;
         }
     }

@@ -1,5 +1,5 @@
 //! What is written of an answer.
-ghost use Rattle.std.specs.Prelude.{◌≡◌, ◌++◌, ℕ, List, OnOk, decimal};
+ghost use Rattle.std.specs.Prelude.{◌≡◌, ◌++◌, ℕ, List, OnOk, codes, decimal};
 ghost use Rattle.calvin_serial.specs.Texts.{value_text, values_text, kv_text};
 
 use calvin_app::KvReply;
@@ -42,6 +42,20 @@ fn push_value(text: &mut Vec<u8>, value: Option<u64>) -> Result<(), AllocError>
     }
 }
 
+/// Adds a space, and a number or that there is none.
+#[inline(always)]
+fn push_next_value(text: &mut Vec<u8>, value: Option<u64>) -> Result<(), AllocError>
+    ensures { OnOk result (text.new.items ≡ text.old.items ++ codes " " ++ value_text value) }
+{
+    match value {
+        Some(n) => {
+            text.extend_from_slice(b" value ")?;
+            push_number(text, n)
+        }
+        None => text.extend_from_slice(b" none"),
+    }
+}
+
 /// Adds numbers, joined by one space.
 fn push_values(text: &mut Vec<u8>, values: &Few<Option<u64>>) -> Result<(), AllocError>
     ensures { OnOk result (text.new.items ≡ text.old.items ++ values_text values.now) }
@@ -51,8 +65,7 @@ fn push_values(text: &mut Vec<u8>, values: &Few<Option<u64>>) -> Result<(), Allo
     };
     push_value(text, first)?;
     for i in 1..values.len() {
-        text.extend_from_slice(b" ")?;
-        push_value(text, values.at(i))?;
+        push_next_value(text, values.at(i))?;
     }
     Ok(())
 }

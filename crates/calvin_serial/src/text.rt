@@ -6,7 +6,7 @@ ghost use Rattle.calvin_app.specs.Serial.{serial};
 ghost use Rattle.calvin_serial.specs.Texts.{place_text, id_text, answer_text, line, lines, finished};
 
 use crate::printed::{Printed, push_number};
-use calvin_app::{Answer, App, Serial};
+use calvin_app::{Answer, App, Serial, View};
 use calvin_order::Merge;
 use calvin_types::{Fault, Place, RequestId, Txn};
 use std::alloc::AllocError;
@@ -84,11 +84,11 @@ where
     ensures only { IsOkUnless result Fault.OutOfMemory }
 {
     let mut n = before;
+    let mut seen = View::new();
+    let mut answer = Answer::Changed;
     for txn in txns {
-        match &store.apply(txn) {
-            Ok(answer) => push_line(text, Place { epoch, n }, txn.id, answer)?,
-            Err(fault) => return Err(*fault),
-        }
+        store.apply_into(txn, &mut seen, &mut answer)?;
+        push_line(text, Place { epoch, n }, txn.id, &answer)?;
         n += 1;
     }
     Ok(())

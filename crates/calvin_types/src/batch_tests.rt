@@ -124,6 +124,11 @@ fn few_items(rt: HostRuntime) -> Result<(), Fail> {
     }
     assert!(rt; items == items.clone()?);
     assert!(rt; items != few(&[3, 4, 9]));
+    items.clear();
+    assert_eq!(rt; items.len(), 0);
+    assert_eq!(rt; items.get(0), None);
+    items.push(7);
+    assert!(rt; items == few(&[7]));
     Ok(())
 }
 

@@ -105,9 +105,10 @@ impl KeyList {
         requires { length self.old < 16 }
         ensures { self.new ≡ self.old ++ key ∷ [] }
     {
-        self.tables[self.size] = key.table;
-        self.ids[self.size] = key.id;
-        self.size += 1;
+        let size = self.size;
+        self.tables[size] = key.table;
+        self.ids[size] = key.id;
+        self.size = size + 1;
     }
 
     /// Puts a key in place of the one with `i` keys before it.

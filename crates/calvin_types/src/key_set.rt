@@ -1,5 +1,5 @@
 //! Sets of at most sixteen keys, and the two sets that a request declares.
-ghost use Rattle.std.specs.Prelude.{◌≡◌, ◌==◌, ℕ, ◌<◌, ◌≤◌, ◌↔◌, [], ◌∷◌, length, IsTrue, nat_le, slice_get, ◌⊎◌, IfErr, IfOk, OnOk, OnErr, IsErr, IsErrOf, IsOkUnless, MatchResult};
+ghost use Rattle.std.specs.Prelude.{◌≡◌, ◌==◌, ℕ, ◌<◌, ◌≤◌, ◌↔◌, [], ◌∷◌, length, IsTrue, false, ◌&&◌, nat_le, nat_lt, slice_get, ◌⊎◌, IfErr, IfOk, OnOk, OnErr, IsErr, IsErrOf, IsOkUnless, MatchResult};
 ghost use Rattle.std.specs.List.{filter, list_any, list_all};
 ghost use Rattle.calvin_types.specs.KeyPlaces.{IsAt, IsMissingAt};
 ghost use Rattle.calvin_types.specs.Keys.{rises, has, insert_key, insert_all, partition_of};
@@ -9,7 +9,6 @@ use crate::config::Config;
 use crate::fault::Fault;
 use crate::key::Key;
 use crate::key_list::KeyList;
-use std::cmp::Ordering;
 use std::marker::Model;
 
 /// A set of at most sixteen keys, which contracts see as the list of its keys, rising. It stands in the value itself,
@@ -111,6 +110,22 @@ impl KeySet {
         Ok(())
     }
 
+    /// Adds a key and says so, where it isn't there yet and there are fewer than sixteen; else the set stays as it is.
+    pub fn add(&mut self, key: Key) -> bool
+        ensures whether { result ≡ (nat_lt (length self.old) (length (insert_key key self.old)) && nat_le (length (insert_key key self.old)) 16) }
+        ensures added { IsTrue result → self.new ≡ insert_key key self.old }
+        ensures kept { result ≡ false → self.new ≡ self.old }
+        ensures at_most { length self.new ≤ 16 }
+    {
+        match place_of(&self.keys, key) {
+            Err(i) if self.keys.len() < 16 => {
+                self.keys.insert(i, key);
+                true
+            }
+            _ => false,
+        }
+    }
+
     /// The keys of both sets. Refused with `TooManyKeys` where these are more than sixteen.
     pub fn union(&self, other: &KeySet) -> Result<KeySet, Fault>
         ensures ok { IfOk result (λ all. all ≡ insert_all other.now self.now) }
@@ -210,10 +225,9 @@ fn place_of(keys: &KeyList, key: Key) -> Result<usize, usize>
     ensures { MatchResult result (IsAt key keys.now) (IsMissingAt key keys.now) }
 {
     for i in 0..keys.len() {
-        match key.cmp(&keys.at(i)) {
-            Ordering::Less => return Err(i),
-            Ordering::Equal => return Ok(i),
-            Ordering::Greater => {}
+        let other = keys.at(i);
+        if key <= other {
+            return if key == other { Ok(i) } else { Err(i) };
         }
     }
     Err(keys.len())

@@ -131,6 +131,13 @@ fn sets_grow_to_sixteen(rt: HostRuntime) -> Result<(), Fail> {
     assert!(rt; set == sixteen, "one that is there");
     assert_eq!(rt; set.insert(key(16)), Err(Fault::TooManyKeys));
     assert!(rt; set == sixteen, "after the seventeenth");
+    let mut set = KeySet::new();
+    for i in 0..16u64 {
+        assert!(rt; set.add(key(i * 7 % 16)), "{i}");
+    }
+    assert!(rt; !set.add(key(5)), "one that is there");
+    assert!(rt; !set.add(key(16)), "the seventeenth");
+    assert!(rt; set == sixteen);
     Ok(())
 }
 
