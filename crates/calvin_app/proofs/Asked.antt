@@ -1,9 +1,7 @@
 -- Where all keys are of table 0, a get asks for all of them; the last one tells.
 use Rattle.std.proofs.Common.{◌≡◌, ◌≤◌, ℕ, zero, suc, ◌<◌, Bool, true, false, ◌&&◌, List, [], ◌∷◌, length, Some, slice_get, refl, sym, ap, ◌∙◌, cond, take, rules, arith}
 use Rattle.std.specs.Cmp.Rules.{comparing}
-use Rattle.std.specs.declared.cmp.Ordering.{Ordering}
-use Rattle.std.specs.declared.cmp.Ordering.TheVariants.{Less, Equal, Greater}
-use Rattle.std.specs.Ordering.{is_lt}
+use Rattle.std.specs.declared.cmp.Ordering.TheVariants.{Less}
 use Rattle.std.proofs.lemmas.Bool.{false≢true}
 use Rattle.std.specs.Prelude.{◌==◌}
 use Rattle.std.specs.List.{filter, list_all}
@@ -11,6 +9,7 @@ use Rattle.std.proofs.lemmas.List.{take_all}
 use Rattle.calvin_types.specs.declared.key.Key.{Key}
 use Rattle.calvin_types.specs.Exact.{first, second}
 use Rattle.calvin_types.specs.Keys.{key_cmp, below_all, rises}
+use Rattle.calvin_types.proofs.Risings.{less}
 use Rattle.calvin_app.specs.Kv.{asked}
 
 all_of_table : (ks : List Key) → list_all (λ k. k.table == 0) ks ≡ true → filter (λ k. k.table == 0) ks ≡ ks
@@ -19,11 +18,6 @@ all_of_table (k ∷ ks) h = ap (λ b. cond b (k ∷ filter (λ j. j.table == 0) 
 
 pub all_asked : (ks : List Key) → length ks ≤ 16 → list_all (λ k. k.table == 0) ks ≡ true → asked ks ≡ ks
 all_asked ks few h = ap (take 16) (all_of_table ks h) ∙ take_all 16 ks few
-
-less : (o : Ordering) → is_lt o ≡ true → o ≡ Less
-less Less h = refl
-less Equal h = absurd (false≢true h)
-less Greater h = absurd (false≢true h)
 
 below_at : (x : Key) (ks : List Key) (i : ℕ) (k : Key) → below_all x ks ≡ true → slice_get ks i ≡ Some k → key_cmp x k ≡ Less
 below_at x [] i k h here = absurd (cc)

@@ -105,6 +105,3 @@ slice_get-drop (x ∷ xs) (suc n) = slice_get-drop xs n
 -- there is one entry at a place
 pub one_entry : {Row : Type 0} (o : Option (Key × Row)) (e f : Key × Row) → o ≡ Some e → o ≡ Some f → e.0 ≡ f.0
 one_entry {Row} o e f is also = let same : e ≡ f = cc in ap (λ (x : Key × Row). x.0) same
-
-pub no_entry : {Row : Type 0} (o : Option (Key × Row)) (e : Key × Row) → o ≡ None → o ≡ Some e → ⊥
-no_entry o e is also = absurd (cc)

@@ -8,9 +8,8 @@ use Rattle.std.specs.declared.cmp.Ordering.TheVariants.{Less, Equal, Greater}
 use Rattle.std.proofs.lemmas.Bool.Decides.{nat_tests}
 use Rattle.serde_json.specs.Data.{Data, Items, no_items, item}
 use Rattle.calvin_types.specs.declared.key.Key.{Key}
-use Rattle.calvin_types.specs.Keys.{insert_key, insert_all, by_order, key_cmp}
+use Rattle.calvin_types.specs.Keys.{insert_key, insert_all, takes, by_order, key_cmp}
 use Rattle.calvin_script.specs.Spelling.{only_if, each}
-use Rattle.calvin_script.specs.KeyLists.{takes}
 
 -- the set of several keys more, all of which are new
 abbrev pub with_more : List Key → List Key → Option (List Key)

@@ -1,11 +1,11 @@
 -- Keys, and sets of keys, as they are written.
 --     key d      the key `[table,id]`
 --     key_set form d      the set of a list of at most 16 keys, none twice, each written in a form
-use Rattle.std.specs.Prelude.{◌^◌, ◌&&◌, ◌==◌, List, [], length, Bool, nat_le, nat_lt, Option, Some, option_and_then, is_none}
+use Rattle.std.specs.Prelude.{◌^◌, ◌&&◌, ◌==◌, List, [], length, nat_le, Option, Some, option_and_then, is_none}
 use Rattle.serde_json.specs.Data.{Data}
 use Rattle.serde_json.specs.Find.{at}
 use Rattle.calvin_types.specs.declared.key.Key.{Key}
-use Rattle.calvin_types.specs.Keys.{insert_key, insert_all}
+use Rattle.calvin_types.specs.Keys.{insert_all}
 use Rattle.calvin_script.specs.Spelling.{◌>>=◌, only_if, below, list}
 
 -- `[table,id]`
@@ -21,9 +21,3 @@ set_of ks = only_if (nat_le (length ks) 16 && (length (insert_all ks []) == leng
 
 unfoldable pub key_set : (Data → Option Key) → Data → Option (List Key)
 key_set form d = option_and_then set_of (list form d)
-
--- ---- key by key
-
--- whether a set takes a key more: a new one, for which there is room
-abbrev pub takes : Key → List Key → Bool
-takes k all = nat_lt (length all) (length (insert_key k all)) && nat_le (length (insert_key k all)) 16

@@ -8,6 +8,3 @@ on_ok P (Err e) p = tt
 
 pub if_ok : {T E : Type 0} (P : T → Type 0) (r : Result T E) (x : T) → r ≡ Ok x → IfOk r P → P x
 if_ok P r x e h = subst (λ s. IfOk s P) e h
-
-pub ok_of : {T E : Type 0} {P : Type 0} (r : Result T E) (x : T) → r ≡ Ok x → OnOk r P → P
-ok_of {P = P} r x e h = subst (λ s. OnOk s P) e h

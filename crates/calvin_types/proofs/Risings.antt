@@ -14,7 +14,7 @@ use Rattle.calvin_types.specs.KeyOrder.{key_cmp_total}
 use Rattle.calvin_types.specs.KeyPlaces.{IsAt, IsMissingAt}
 use Rattle.calvin_types.proofs.Fews.{drop_at}
 
-less : (o : Ordering) → is_lt o ≡ true → o ≡ Less
+pub less : (o : Ordering) → is_lt o ≡ true → o ≡ Less
 less Less h = refl
 less Equal h = absurd (false≢true h)
 less Greater h = absurd (false≢true h)

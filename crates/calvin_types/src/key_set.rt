@@ -1,8 +1,8 @@
 //! Sets of at most sixteen keys, and the two sets that a request declares.
-ghost use Rattle.std.specs.Prelude.{◌≡◌, ◌==◌, ℕ, ◌<◌, ◌≤◌, ◌↔◌, [], ◌∷◌, length, IsTrue, false, ◌&&◌, nat_le, nat_lt, slice_get, ◌⊎◌, IfErr, IfOk, OnOk, OnErr, IsErr, IsErrOf, IsOkUnless, MatchResult};
+ghost use Rattle.std.specs.Prelude.{◌≡◌, ◌==◌, ℕ, ◌<◌, ◌≤◌, ◌↔◌, [], ◌∷◌, length, IsTrue, false, nat_le, slice_get, ◌⊎◌, IfErr, IfOk, OnOk, OnErr, IsErr, IsErrOf, IsOkUnless, MatchResult};
 ghost use Rattle.std.specs.List.{filter, list_any, list_all};
 ghost use Rattle.calvin_types.specs.KeyPlaces.{IsAt, IsMissingAt};
-ghost use Rattle.calvin_types.specs.Keys.{rises, has, insert_key, insert_all, partition_of};
+ghost use Rattle.calvin_types.specs.Keys.{rises, has, insert_key, insert_all, takes, partition_of};
 ghost use Rattle.calvin_types.specs.Participants.{site, is_local, local_keys};
 
 use crate::config::Config;
@@ -112,7 +112,7 @@ impl KeySet {
 
     /// Adds a key and says so, where it isn't there yet and there are fewer than sixteen; else the set stays as it is.
     pub fn add(&mut self, key: Key) -> bool
-        ensures whether { result ≡ (nat_lt (length self.old) (length (insert_key key self.old)) && nat_le (length (insert_key key self.old)) 16) }
+        ensures whether { result ≡ takes key self.old }
         ensures added { IsTrue result → self.new ≡ insert_key key self.old }
         ensures kept { result ≡ false → self.new ≡ self.old }
         ensures at_most { length self.new ≤ 16 }

@@ -1,10 +1,9 @@
-use Rattle.std.proofs.Common.{◌≡◌, Some, sym, ap, ◌∙◌, ◌++◌, map, arith}
+use Rattle.std.proofs.Common.{Some, sym, ap, ◌∙◌, ◌++◌, map, arith}
 use Rattle.std.proofs.lemmas.Option.{slice_get-get_or}
 use Rattle.std.proofs.lemmas.List.{append-nil, drop_all}
 use Rattle.calvin_order.specs.Merged.{numbered}
-use Rattle.calvin_app.specs.Serial.{answer_one, serial}
+use Rattle.calvin_app.specs.Serial.{serial}
 use Rattle.calvin_serial.specs.Texts.{line, lines}
-use Rattle.calvin_serial.proofs.Results.{if_ok, ok_of}
 use Rattle.calvin_serial.proofs.Runs.{one_line, one_row}
 use Rattle.calvin_serial.proofs.text.push_batch.Goals as goal
 
