@@ -1,7 +1,6 @@
 //! What standard error is told of a refusal.
 ghost use Rattle.std.specs.Prelude.{◌≡◌};
-ghost use Rattle.calvin_types.specs.Faults.{number_of, name_of};
-ghost use Rattle.calvin_edge.specs.Complaints.{complaint, line_of};
+ghost use Rattle.calvin_edge.specs.Complaints.{complaint};
 
 use calvin_types::Fault;
 
@@ -9,7 +8,6 @@ use calvin_types::Fault;
 /// line feed. It takes no memory, so that want of memory can be told too.
 pub fn complaint(fault: Fault) -> &'static str
     ensures text { result.now ≡ complaint fault }
-    ensures number_and_name { result.now ≡ line_of (number_of fault) (name_of fault) }
 {
     match fault {
         Fault::OutOfMemory => "calvin: 1 OutOfMemory\n",

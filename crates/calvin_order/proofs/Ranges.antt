@@ -1,14 +1,15 @@
 -- No batch is held for an epoch past the last, so nothing is left to give after it.
-use Rattle.std.proofs.Common.{◌≡◌, ◌<◌, ◌^◌, Bool, true, false, cond, Option, Some, None, [], length, is_some, IsSome, refl, sym, ap, subst, ◌∙◌, arith}
+use Rattle.std.proofs.Common.{◌≡◌, ℕ, zero, suc, ◌<◌, ◌^◌, Bool, true, false, cond, Option, Some, None, [], length, is_some, IsSome, refl, sym, ap, subst, ◌∙◌, arith}
 use Rattle.std.proofs.lemmas.Bool.{false≢true}
+use Rattle.std.proofs.lemmas.Option.{none-some}
 use Rattle.std.specs.Option.{unwrap_or}
 use Rattle.std.specs.Ordering.{eq_by_cmp}
 use Rattle.std.specs.Cmp.{Equal-is}
-use Rattle.std.specs.FinMap.{get, insert, empty, get-empty, get-insert}
+use Rattle.std.specs.FinMap.{get, insert, empty, get-empty, get-insert, get-remove}
 use Rattle.calvin_types.specs.declared.place.Slot.{Slot}
 use Rattle.calvin_types.specs.Places.{slot_cmp}
 use Rattle.calvin_order.specs.Merged.{Batch}
-use Rattle.calvin_order.specs.Merging.{Batches, Merging, batch_at, held_by, IsReady, EpochsFit}
+use Rattle.calvin_order.specs.Merging.{Batches, Merging, batch_at, held_by, without_epoch, HoldsAll, IsReady, EpochsFit}
 use Rattle.calvin_order.proofs.Slots.{slot_total, slot_exact}
 use Rattle.calvin_order.proofs.Joining.{joined_none}
 
@@ -22,6 +23,29 @@ module _ {Args : Type 0} where
       go : (b : Bool) → eq_by_cmp slot_cmp q slot ≡ b → IsSome (cond b (Some batch) (get held q)) → q.epoch < 2 ^ 64
       go true e h = let same = slot_exact q slot ((Equal-is (slot_cmp q slot)).0 e) in subst (λ s. s.epoch < 2 ^ 64) (sym same) low
       go false e h = before q h
+
+  -- what is held without the batches of an epoch was held before
+  pub held_before : (held : Batches Args) (e g : ℕ) (slot : Slot) (batch : Batch Args) → get (without_epoch e g held) slot ≡ Some batch → get held slot ≡ Some batch
+  held_before held e zero slot batch is = is
+  held_before held e (suc g) slot batch is = go (eq_by_cmp slot_cmp slot gone) (sym (get-remove slot_total (without_epoch e g held) gone slot) ∙ is) (held_before held e g slot batch)
+    where
+      gone : Slot
+      gone = record { epoch = e; group = g }
+
+      go : (b : Bool) → cond b None (get (without_epoch e g held) slot) ≡ Some batch → (get (without_epoch e g held) slot ≡ Some batch → get held slot ≡ Some batch) → get held slot ≡ Some batch
+      go true h before = absurd (none-some batch h)
+      go false h before = before h
+
+  pub fewer_in_range : (held : Batches Args) (e g : ℕ) → EpochsFit held → EpochsFit (without_epoch e g held)
+  fewer_in_range held e g before slot h = go (get (without_epoch e g held) slot) refl h
+    where
+      go : (o : Option (Batch Args)) → get (without_epoch e g held) slot ≡ o → IsSome o → slot.epoch < 2 ^ 64
+      go (Some batch) is h = before slot (ap is_some (held_before held e g slot batch is))
+      go None is h = absurd (false≢true h)
+
+  -- no group has a batch past the last epoch
+  pub none_complete : (held : Batches Args) (parts : ℕ) → EpochsFit held → 0 < parts → HoldsAll held (2 ^ 64) parts → ⊥
+  none_complete held parts in_range some all = let low = in_range (record { epoch = 2 ^ 64; group = 0 }) (all 0 some) in omega (arith, low)
 
   pub none_past_last : (held : Batches Args) → EpochsFit held → (slot : Slot) → slot.epoch ≡ 2 ^ 64 → batch_at held slot ≡ []
   none_past_last held in_range slot past = go (get held slot) refl

@@ -1,10 +1,10 @@
 -- Slots in their order, and a hash map of slots beside the finite map that its entries are.
-use Rattle.std.proofs.Common.{◌≡◌, ℕ, Bool, true, false, cond, ◌&&◌, List, Some, nat_eq, refl, ap, eqb-true, eq-eqb}
+use Rattle.std.proofs.Common.{◌≡◌, ℕ, Bool, true, false, cond, ◌&&◌, List, Some, None, nat_eq, refl, ap, eqb-true, eq-eqb}
 use Rattle.std.proofs.lemmas.Bool.{false≢true}
 use Rattle.std.specs.Ordering.{nat_cmp}
 use Rattle.std.specs.Cmp.{IsTotalOrder, nat_cmp_total}
 use Rattle.std.specs.Map.{lookup}
-use Rattle.std.specs.FinMap.{IsAntisymmetric, get, insert, from_entries}
+use Rattle.std.specs.FinMap.{IsAntisymmetric, get, insert, remove, from_entries}
 use Rattle.std.proofs.lemmas.Cmp.{on_total, then_total}
 use Rattle.std.proofs.lemmas.Map.Lookups.{exact_pairs, exact_unsigned}
 use Rattle.calvin_types.specs.declared.place.Slot.{Slot}
@@ -47,3 +47,7 @@ module _ {X : Type 0} where
   -- entries that differ at one slot make maps that differ there
   pub put : (es fs : List (Slot × X)) (slot : Slot) (v : X) → ((q : Slot) → lookup (slot_eq q) fs ≡ cond (slot_eq slot q) (Some v) (lookup (slot_eq q) es)) → from_entries {R = slot_cmp} fs ≡ insert (from_entries es) slot v
   put es fs slot v h = maps.one_put slot_eq slot_cmp slot_total slot_exact slot_eq_exact slot_eq_self es fs slot v h
+
+  -- entries of which one slot has gone make a map without it
+  pub taken_out : (es fs : List (Slot × X)) (slot : Slot) → ((q : Slot) → lookup (slot_eq q) fs ≡ cond (slot_eq slot q) None (lookup (slot_eq q) es)) → from_entries {R = slot_cmp} fs ≡ remove (from_entries es) slot
+  taken_out es fs slot h = maps.one_removed slot_eq slot_cmp slot_total slot_exact slot_eq_exact slot_eq_self es fs slot h

@@ -1,4 +1,4 @@
--- Batches, and the order that an assignment of batches to slots gives (Thomson et al. 2012, section 3.2: one order of all requests, epoch after epoch).
+-- Batches, and the order that an assignment of batches to slots gives (Thomson et al. 2012, section 3.1: one order of all requests, epoch after epoch).
 --     Batch Args      requests in order
 --     Assignment Args      a batch for each slot
 --     joined B e g      the batches of epoch e of the groups below g, by ascending group

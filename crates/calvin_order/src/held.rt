@@ -3,7 +3,7 @@ ghost use Rattle.std.specs.Prelude.{◌≡◌, ◌+◌, ◌*◌, ◌-◌, ◌<�
 ghost use Rattle.std.specs.Option.{option_copied};
 ghost use Rattle.std.specs.FinMap as map;
 ghost use Rattle.calvin_order.specs.Merged.{joined, numbered, merged};
-ghost use Rattle.calvin_order.specs.Merging.{batch_at, HoldsAll};
+ghost use Rattle.calvin_order.specs.Merging.{batch_at, HoldsAll, without_epoch};
 
 use calvin_types::{Batch, Fault, Place, Slot, Txn};
 use std::alloc::Global;
@@ -34,6 +34,7 @@ impl<Args> Model for Held<Args> {
 }
 
 impl<Args: Copy> Held<Args> {
+    /// No batch, and room for none.
     pub fn new(alloc: Global) -> Held<Args>
         ensures { result ≡ record { batches = map.empty; room = 0 } }
     {
@@ -43,6 +44,7 @@ impl<Args: Copy> Held<Args> {
         }
     }
 
+    /// The batch for a slot.
     pub fn get(&self, slot: Slot) -> Option<&Batch<Args>>
         ensures { option_copied result ≡ map.get self.now.batches slot }
     {
@@ -73,6 +75,22 @@ impl<Args: Copy> Held<Args> {
             self.room = 1;
         }
         Ok(())
+    }
+
+    /// Gives up the batch for a slot, if there is one.
+    fn remove(&mut self, slot: Slot)
+        ensures { self.new ≡ record self.old { batches = map.remove self.old.batches slot } }
+    {
+        let _given_up = self.batches.remove(&slot);
+    }
+
+    /// Gives up the groups' batches for an epoch.
+    pub fn remove_all(&mut self, epoch: u64, groups: u8)
+        ensures { self.new ≡ record self.old { batches = without_epoch epoch groups self.old.batches } }
+    {
+        for group in 0..groups {
+            self.remove(Slot { epoch, group });
+        }
     }
 
     /// Whether each group has a batch for an epoch.

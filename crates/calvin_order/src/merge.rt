@@ -4,7 +4,7 @@ ghost use Rattle.std.specs.Option.{option_copied};
 ghost use Rattle.std.specs.FinMap as map;
 ghost use Rattle.calvin_types.specs.Orders.{Rises};
 ghost use Rattle.calvin_order.specs.Merged.{merged, OrdersRise};
-ghost use Rattle.calvin_order.specs.Merging.{held_by, with_batch, IsComplete, IsReady};
+ghost use Rattle.calvin_order.specs.Merging.{held_by, with_batch, without_epoch, IsComplete, IsReady};
 
 use crate::held::Held;
 use calvin_types::{Batch, Config, Fault, Place, Slot, Txn};
@@ -12,7 +12,7 @@ use std::alloc::Global;
 use std::marker::Model;
 use std::mem;
 
-/// At most one batch for each slot, and the epoch that is taken next (Thomson et al. 2012, section 3.2: each node joins
+/// At most one batch for each slot, and the epoch that is taken next (Thomson et al. 2012, section 3.1: each node joins
 /// the batches of all sequencers, in one order).
 #[derive(Drop)]
 pub struct Merge<Args> {
@@ -107,11 +107,12 @@ impl<Args: Copy> Merge<Args> {
         }
     }
 
-    /// Goes on to the next epoch as `take_epoch` does, for a caller who reads the requests where they stand: none is
-    /// copied. Refused with `NotComplete` where a group's batch isn't held for that epoch, as always once no epoch is
-    /// left. Batches stay held.
+    /// Goes on to the next epoch as `take_epoch` does, for a caller who has read the requests where they stand: none is
+    /// copied. The batches of the epoch that is passed are given up, so what is held doesn't grow with the epochs; who
+    /// brings one of them again has it held again. Refused with `NotComplete` where a group's batch isn't held for that
+    /// epoch, as always once no epoch is left.
     pub fn pass_epoch(&mut self) -> Result<(), Fault>
-        ensures next { OnOk result (self.new ≡ record self.old { next = suc self.old.next }) }
+        ensures next { OnOk result (self.new ≡ record self.old { next = suc self.old.next; held = without_epoch self.old.next self.old.partitions self.old.held }) }
         ensures complete { OnOk result (IsComplete self.old) }
         ensures not_complete { IsErrOf result Fault.NotComplete ↔ ¬ IsComplete self.old }
         ensures err { IsOkUnless result Fault.NotComplete }
@@ -119,6 +120,7 @@ impl<Args: Copy> Merge<Args> {
     {
         match self.next {
             Some(last) if self.held.has_all(last, self.partitions) => {
+                self.held.remove_all(last, self.partitions);
                 self.next = last.checked_add(1);
                 Ok(())
             }

@@ -1,3 +1,4 @@
+//! What a merge holds and gives, with exact numbers, and each public call once.
 use crate::merge::Merge;
 use calvin_types::{Batch, Config, Fault, KeySet, Place, RequestId, Sets, Slot, Txn};
 use std::alloc::Global;
@@ -93,6 +94,23 @@ fn requests_where_they_stand(rt: HostRuntime) -> Result<(), Fail> {
     assert_eq!(rt; merge.next(), Some(1));
     shows(&rt, &merge, 0, &[7]);
     shows(&rt, &merge, 1, &[]);
+    Ok(())
+}
+
+#[test]
+fn passed_batches_are_given_up(rt: HostRuntime) -> Result<(), Fail> {
+    let alloc = rt.alloc();
+    let mut merge = merge_of(alloc, 2)?;
+    hold(alloc, &mut merge, 0, 0, &[9])?;
+    hold(alloc, &mut merge, 0, 1, &[5, 4])?;
+    hold(alloc, &mut merge, 0, 2, &[3])?;
+    hold(alloc, &mut merge, 1, 0, &[7])?;
+    assert_eq!(rt; merge.pass_epoch(), Ok(()));
+    for (epoch, group, there) in [(0, 0, false), (0, 1, false), (0, 2, true), (1, 0, true)] {
+        assert_eq!(rt; merge.held(Slot { epoch, group }).is_some(), there);
+    }
+    assert_eq!(rt; hold(alloc, &mut merge, 0, 1, &[6])?, true);
+    assert_eq!(rt; hold(alloc, &mut merge, 0, 1, &[5])?, false);
     Ok(())
 }
 

@@ -8,9 +8,10 @@ use Rattle.std.specs.FinMap.{get, insert, contains_key, empty, get-insert, get-e
 use Rattle.calvin_types.specs.declared.place.Slot.{Slot}
 use Rattle.calvin_types.specs.Places.{slot_cmp}
 use Rattle.calvin_order.specs.Merged.{Batch, Assignment, merged}
-use Rattle.calvin_order.specs.Merging.{Merging, Batches, with_batch, held_by, IsComplete}
+use Rattle.calvin_order.specs.Merging.{Merging, Batches, with_batch, without_epoch, held_by, IsComplete}
 use Rattle.calvin_order.proofs.Slots.{slot_total, slot_exact}
 use Rattle.calvin_order.proofs.Joining.{merged_same}
+use Rattle.calvin_order.proofs.Ranges.{held_before}
 use Rattle.calvin_serial.specs.Holding.{slot_of, with_groups, HoldsOnly}
 
 same_batch : {X : Type 0} (a b : X) → Some a ≡ Some b → b ≡ a
@@ -88,8 +89,9 @@ module _ {Args : Type 0} (B : Assignment Args) (parts e : ℕ) where
   pub placed_given : (m : Merging Args) → HoldsOnly B parts e m → IsComplete m → merged parts (held_by m) e ≡ merged parts B e
   placed_given m h complete = sym (λ i. merged (h.as_many i) (held_by m) (h.next_is i)) ∙ merged_given m h complete
 
-  pub passed_given : (m : Merging Args) → HoldsOnly B parts e m → HoldsOnly B parts (suc e) (record m { next = suc m.next })
-  passed_given m h = record { as_many = h.as_many; next_is = ap suc h.next_is; given = h.given }
+  -- also after the epoch is passed and its batches are given up
+  pub passed_given : (m : Merging Args) → HoldsOnly B parts e m → HoldsOnly B parts (suc e) (record m { next = suc m.next; held = without_epoch m.next m.partitions m.held })
+  passed_given m h = record { as_many = h.as_many; next_is = ap suc h.next_is; given = λ q batch got. h.given q batch (held_before m.held m.next m.partitions q batch got) }
 
 -- a merge that holds nothing
 none_got : {Args : Type 0} (q : Slot) (batch : Batch Args) → get {R = slot_cmp} empty q ≡ Some batch → ⊥

@@ -8,7 +8,7 @@ use Rattle.std.specs.Prelude.{◌≡◌, ℕ, ◌<◌, List, ◌++◌, length, m
 use Rattle.std.specs.FinMap.{empty}
 use Rattle.std.specs.Io.KnownBytes.{Appends}
 use Rattle.calvin_types.specs.declared.fault.Fault.{Fault}
-use Rattle.calvin_types.specs.declared.fault.Fault.TheVariants.{OutOfMemory, TooManyKeys, Repeated, BadConfig, TooLong, LocksOutOfOrder, NoKeys, NotHeld, RoundsSpent, NotCurrent, Known, NotComplete, NoNode, NoPacket, BadJson, BadScript, ScriptTooLong, ReadFailed, WriteFailed}
+use Rattle.calvin_types.specs.declared.fault.Fault.TheVariants.{OutOfMemory, BadJson, BadScript, ScriptTooLong, ReadFailed, WriteFailed}
 use Rattle.calvin_app.specs.Meaning.{Meaning}
 use Rattle.calvin_app.specs.Serial.{serial}
 use Rattle.calvin_app.specs.Kv.{kv}
@@ -35,21 +35,9 @@ HasBeginning answer old new = HasText answer (λ text. (n : ℕ) × (n < length 
 
 abbrev pub Refuses : Fault → Result (List ℕ) Fault → Type 0
 Refuses OutOfMemory answer = Unit {0}
-Refuses TooManyKeys answer = ⊥
-Refuses Repeated answer = ⊥
-Refuses BadConfig answer = ⊥
-Refuses TooLong answer = ⊥
-Refuses LocksOutOfOrder answer = ⊥
-Refuses NoKeys answer = ⊥
-Refuses NotHeld answer = ⊥
-Refuses RoundsSpent answer = ⊥
-Refuses NotCurrent answer = ⊥
-Refuses Known answer = ⊥
-Refuses NotComplete answer = ⊥
-Refuses NoNode answer = ⊥
-Refuses NoPacket answer = ⊥
 Refuses BadJson answer = answer ≡ Err BadJson
 Refuses BadScript answer = answer ≡ Err BadScript
 Refuses ScriptTooLong answer = answer ≡ Err ScriptTooLong
 Refuses ReadFailed answer = Unit {0}
 Refuses WriteFailed answer = HasText answer (λ _. Unit {0})
+Refuses fault answer = ⊥

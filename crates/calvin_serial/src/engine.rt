@@ -1,5 +1,5 @@
 //! The engine `serial`: a script in, the text of its serial run out.
-ghost use Rattle.std.specs.Prelude.{◌≡◌, ◌≢◌, ◌+◌, ◌≤◌, ◌<◌, ◌++◌, ℕ, suc, length, map, IfOk, IfErr, OnOk, IfSome, Ok, Err, IsErrOf, IsOkUnless};
+ghost use Rattle.std.specs.Prelude.{◌≡◌, ◌≢◌, ◌+◌, ◌≤◌, ◌<◌, ◌++◌, [], ℕ, suc, length, map, IfOk, IfErr, OnOk, IfSome, Ok, Err, IsErrOf, IsOkUnless};
 ghost use Rattle.std.specs.FinMap as finmap;
 ghost use Rattle.std.specs.Io.KnownBytes.{Appends, IsAtEnd};
 ghost use Rattle.calvin_edge.specs.Devices.{ConsumesSome};
@@ -20,12 +20,12 @@ use calvin_app::{App, Kv, KvRequest, Serial};
 use calvin_edge::{Sink, Source, read_all, write_all};
 use calvin_order::Merge;
 use calvin_script::Script;
-use calvin_types::{Config, Fault};
+use calvin_types::{Batch, Config, Fault};
 use std::alloc::Global;
 
 /// Runs the requests of the next epoch of a script, and adds a line for each.
 fn run_epoch<A: App + Drop>(
-    alloc: Global,
+    empty: &Batch<A::Args>,
     script: &Script<A::Args>,
     epoch: usize,
     merge: &mut Merge<A::Args>,
@@ -34,6 +34,7 @@ fn run_epoch<A: App + Drop>(
 ) -> Result<(), Fault>
 where
     A::Reply: Printed,
+    requires empty { empty.now ≡ [] }
     requires within { epoch < length script.now.epochs.items }
     requires merge { HoldsOnly (batch_at (contents script.now)) script.now.partitions epoch merge.old }
     ensures merge { OnOk result (HoldsOnly (batch_at (contents script.now)) script.now.partitions (suc epoch) merge.new) }
@@ -43,7 +44,7 @@ where
         store.new ≡ (spec.serial A.meaning (map (λ e. e.1) placed) store.old).0) }
     ensures only { IsOkUnless result Fault.OutOfMemory }
 {
-    hold_epoch(alloc, merge, script, epoch)?;
+    hold_epoch(empty, merge, script, epoch)?;
     push_epoch(store, merge, epoch as u64, script.partitions, text)?;
     merge.pass_epoch()
 }
@@ -56,11 +57,12 @@ where
     ensures only { IsOkUnless result Fault.OutOfMemory }
 {
     let config = Config::new(script.partitions, 1).unwrap();
+    let empty = Batch::new(alloc, Vec::new(alloc))?;
     let mut merge = Merge::new(alloc, &config);
     let mut store = Serial::new(alloc, app);
     let mut text = Vec::new(alloc);
     for epoch in 0..script.epochs.len() {
-        run_epoch(alloc, script, epoch, &mut merge, &mut store, &mut text)?;
+        run_epoch(&empty, script, epoch, &mut merge, &mut store, &mut text)?;
     }
     push_finished(&mut text, script.epochs.len())?;
     Ok(text)

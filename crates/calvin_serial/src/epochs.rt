@@ -1,5 +1,5 @@
 //! The batches of a script, held by a merge.
-ghost use Rattle.std.specs.Prelude.{◌≡◌, ◌<◌, IfOk, OnOk, IsOkUnless, length};
+ghost use Rattle.std.specs.Prelude.{◌≡◌, ◌<◌, IfOk, OnOk, IsOkUnless, [], length};
 ghost use Rattle.calvin_script.specs.Scripts.{all_listed, batch_of, contents, batch_at};
 ghost use Rattle.calvin_order.specs.Merging.{with_batch};
 ghost use Rattle.calvin_serial.specs.Holding.{slot_of, with_groups};
@@ -7,14 +7,14 @@ ghost use Rattle.calvin_serial.specs.Holding.{slot_of, with_groups};
 use calvin_order::Merge;
 use calvin_script::{Epoch, Script};
 use calvin_types::{Batch, Fault, Slot};
-use std::alloc::Global;
 
-/// The batch that is listed for a group: the empty one, where none is.
+/// The batch that is listed for a group: the empty one, where none is. All groups without one share its memory.
 fn listed_batch<Args: Copy>(
-    alloc: Global,
+    empty: &Batch<Args>,
     epoch: &Epoch<Args>,
     group: u8,
 ) -> Result<Batch<Args>, Fault>
+    requires empty { empty.now ≡ [] }
     ensures batch { IfOk result (λ b. b ≡ batch_of group (all_listed epoch.now)) }
     ensures only { IsOkUnless result Fault.OutOfMemory }
 {
@@ -23,22 +23,23 @@ fn listed_batch<Args: Copy>(
             return listed.batch.copy();
         }
     }
-    Batch::new(alloc, Vec::new(alloc))
+    empty.copy()
 }
 
 /// Lets a merge hold the batch of a group in an epoch.
 fn hold_group<Args: Copy>(
-    alloc: Global,
+    empty: &Batch<Args>,
     merge: &mut Merge<Args>,
     script: &Script<Args>,
     epoch: usize,
     group: u8,
 ) -> Result<(), Fault>
-    requires { epoch < length script.now.epochs.items }
+    requires empty { empty.now ≡ [] }
+    requires within { epoch < length script.now.epochs.items }
     ensures held { OnOk result (merge.new ≡ with_batch (slot_of epoch group) (batch_at (contents script.now) (slot_of epoch group)) merge.old) }
     ensures only { IsOkUnless result Fault.OutOfMemory }
 {
-    let batch = listed_batch(alloc, &script.epochs[epoch], group)?;
+    let batch = listed_batch(empty, &script.epochs[epoch], group)?;
     let slot = Slot {
         epoch: epoch as u64,
         group,
@@ -49,17 +50,18 @@ fn hold_group<Args: Copy>(
 
 /// Lets a merge hold the batches of all groups in an epoch.
 pub(crate) fn hold_epoch<Args: Copy>(
-    alloc: Global,
+    empty: &Batch<Args>,
     merge: &mut Merge<Args>,
     script: &Script<Args>,
     epoch: usize,
 ) -> Result<(), Fault>
-    requires { epoch < length script.now.epochs.items }
+    requires empty { empty.now ≡ [] }
+    requires within { epoch < length script.now.epochs.items }
     ensures held { OnOk result (merge.new ≡ with_groups (batch_at (contents script.now)) epoch script.now.partitions merge.old) }
     ensures only { IsOkUnless result Fault.OutOfMemory }
 {
     for group in 0..script.partitions {
-        hold_group(alloc, merge, script, epoch, group)?;
+        hold_group(empty, merge, script, epoch, group)?;
     }
     Ok(())
 }

@@ -1,12 +1,12 @@
 -- A hash map beside the finite map that its entries are.
-use Rattle.std.proofs.Common.{◌≡◌, Bool, true, false, cond, List, [], ◌∷◌, Some, refl, sym, ap, ◌∙◌}
+use Rattle.std.proofs.Common.{◌≡◌, Bool, true, false, cond, List, [], ◌∷◌, Some, None, refl, sym, ap, ◌∙◌}
 use Rattle.std.proofs.lemmas.Bool.{false≢true}
 use Rattle.std.specs.declared.cmp.Ordering.{Ordering}
 use Rattle.std.specs.declared.cmp.Ordering.TheVariants.{Less, Equal, Greater}
 use Rattle.std.specs.Ordering.{is_eq, eq_by_cmp}
 use Rattle.std.specs.Cmp.{IsTotalOrder, tied_itself, eq_by_cmp_equiv}
 use Rattle.std.specs.Map.{lookup}
-use Rattle.std.specs.FinMap.{IsAntisymmetric, find, get, insert, from_entries, get-from_entries, get-insert, same_map}
+use Rattle.std.specs.FinMap.{IsAntisymmetric, find, get, insert, remove, from_entries, get-from_entries, get-insert, get-remove, same_map}
 
 tied : (o : Ordering) → is_eq o ≡ true → o ≡ Equal
 tied Less h = absurd (false≢true h)
@@ -41,3 +41,9 @@ module _ {K : Type 0} (eq : K → K → Bool) (R : K → K → Ordering) (total 
     one_put es fs k v h = same_map total exact _ _ (λ q.
         get-entries fs q ∙ h q ∙ ap (λ b. cond b (Some v) (lookup (eq q) es)) (alike k q ∙ (eq_by_cmp_equiv total).symm k q)
         ∙ sym (get-insert total (from_entries es) k v q ∙ ap (cond (eq_by_cmp R q k) (Some v)) (get-entries es q)))
+
+    -- entries of which one key has gone make a map without it
+    pub one_removed : (es fs : List (K × X)) (k : K) → ((q : K) → lookup (eq q) fs ≡ cond (eq k q) None (lookup (eq q) es)) → from_entries {R = R} fs ≡ remove (from_entries es) k
+    one_removed es fs k h = same_map total exact _ _ (λ q.
+        get-entries fs q ∙ h q ∙ ap (λ b. cond b None (lookup (eq q) es)) (alike k q ∙ (eq_by_cmp_equiv total).symm k q)
+        ∙ sym (get-remove total (from_entries es) k q ∙ ap (cond (eq_by_cmp R q k) None) (get-entries es q)))
