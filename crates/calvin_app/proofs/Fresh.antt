@@ -1,7 +1,6 @@
 -- The sets that a request needs of all rows are those that it needs of its view.
-use Rattle.std.proofs.Common.{◌≡◌, ℕ, Bool, true, false, List, [], ◌∷◌, refl, sym, ◌∙◌, ap}
-use Rattle.std.proofs.lemmas.Bool.{eq-eqb, false≢true}
-use Rattle.std.specs.Prelude.{if◌then◌else◌}
+use Rattle.std.proofs.Common.{◌≡◌, ℕ, Bool, true, List, [], ◌∷◌, refl, sym, ◌∙◌, ap}
+use Rattle.std.proofs.lemmas.Bool.{eq-eqb}
 use Rattle.calvin_types.specs.declared.key.Key.{Key}
 use Rattle.calvin_types.specs.Exact.{both}
 use Rattle.calvin_types.specs.declared.key_set.Sets.{Sets}
@@ -9,8 +8,7 @@ use Rattle.calvin_types.specs.declared.txn.Txn.{Txn}
 use Rattle.calvin_app.specs.Rows.{Rows}
 use Rattle.calvin_app.specs.Meaning.{Meaning, IsLawful}
 use Rattle.calvin_app.specs.Rows.{view}
-use Rattle.calvin_app.specs.Serial.{is_current, answer_on, answer_one}
-use Rattle.calvin_app.specs.declared.answer.Answer.TheVariants.{Reply, Changed}
+use Rattle.calvin_app.specs.Serial.{is_current}
 use Rattle.calvin_types.specs.SameKeys.{same_keys, same_sets}
 
 pub same_keys-self : (ks : List Key) → same_keys ks ks ≡ true
@@ -26,12 +24,3 @@ is_current-needed m lawful txn rows e =
     ap (λ (s : Sets). same_sets (m.needs txn.args (view rows s.reads)) s) (sym e)
     ∙ ap (λ (s : Sets). same_sets s (m.needs txn.args rows)) (lawful.sets_follow_from_their_reads txn.args rows)
     ∙ same_sets-self (m.needs txn.args rows)
-
-reply_where : {R : Type 0} (b : Bool) (reply : R) → b ≡ true → (if b then Reply reply else Changed) ≡ Changed → ⊥
-reply_where true reply is changed = absurd (cc)
-reply_where false reply is changed = false≢true is
-
--- so it isn't answered that they are others
-pub answered-needed : {Args Row Reply : Type 0} {dependent : Args → Bool} {most top : ℕ} (m : Meaning Args Row Reply) → IsLawful m dependent most top → (txn : Txn Args) (rows : Rows Row) → m.needs txn.args rows ≡ txn.sets → answer_one m txn rows ≡ Changed → ⊥
-unfolding answer_on
-answered-needed m lawful txn rows e changed = reply_where (is_current m txn (view rows txn.sets.reads)) _ (is_current-needed m lawful txn rows e) changed

@@ -1,4 +1,5 @@
 pub mod Asked
+pub mod Distinct
 pub mod Ends
 pub mod Fresh
 pub mod Puts

@@ -1,4 +1,5 @@
 pub mod Entries
+pub mod Follow
 pub mod Kv
 pub mod KvExact
 pub mod Meaning

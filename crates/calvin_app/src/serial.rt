@@ -81,6 +81,9 @@ impl<A: App> Serial<A> {
         ensures answer { OnOk result (answer.new ≡ answer_one A.meaning txn.now self.old) }
         ensures ok { OnOk result (self.new ≡ after_one A.meaning txn.now self.old) }
         ensures err { OnErr result (self.new ≡ self.old) }
+
+        // A request with the sets that it needs of all rows is run.
+        ensures fresh { A.meaning.needs txn.now.args self.old ≡ txn.now.sets → OnOk result (answer.new ≢ Changed) }
         ensures only { IsOkUnless result Fault.OutOfMemory }
     {
         seen.clear();

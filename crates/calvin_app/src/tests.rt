@@ -1,11 +1,17 @@
 //! Each public call once, and Kv through callers that know it as an application alone.
+ghost use Rattle.std.specs.Prelude.{◌≡◌};
+
+mod follow;
+
 use crate::{Answer, App, Kv, KvReply, KvRequest, Serial, Table, View, Writes};
 use calvin_types::{Fault, Few, Key, KeySet, RequestId, Sets, Txn};
 use std::alloc::Global;
 use std::test::Fail;
 
 /// A key of table 0.
-fn key(id: u64) -> Key {
+fn key(id: u64) -> Key
+    ensures { result ≡ record { table = 0; id = id } }
+{
     Key { table: 0, id }
 }
 
@@ -195,6 +201,19 @@ fn after_put(
         answer == Answer::Changed,
         [rows.get(&key(3)), rows.get(&key(4)), rows.get(&key(5))],
     ))
+}
+
+#[test]
+fn kv_runs(rt: HostRuntime) -> Result<(), Fail> {
+    let mut table = Table::new(rt.alloc());
+    table.overwrite(&Writes::of(key(3), 10))?;
+    let mut view = View::new();
+    table.look_up(&set(&[3])?, &mut view);
+    let (reply, writes) = Kv.run(&KvRequest::Add(3, 5), &view);
+    assert_eq!(rt; reply, KvReply::Value(15));
+    assert_eq!(rt; writes.len(), 1);
+    assert!(rt; writes.at(0) == (key(3), 15));
+    Ok(())
 }
 
 #[test]

@@ -1,25 +1,32 @@
 //! The rows that a request writes.
 ghost use Rattle.std.specs.Prelude.{◌≡◌, [], ◌∷◌, ◌++◌, ◌<◌, ◌≤◌, ◌↔◌, false, length, slice_get, OnOk, OnErr, IsErrOf, IsOkUnless, MatchOption};
+ghost use Rattle.std.specs.List.{IsDistinct};
 ghost use Rattle.calvin_app.specs.Places.{IsUnwritten, IsWrittenAt};
-ghost use Rattle.calvin_types.specs.Keys.{has};
+ghost use Rattle.calvin_types.specs.Keys.{has, same_key};
 ghost use Rattle.calvin_app.specs.Writing.{keys_of, with_write};
 
 use calvin_types::{Fault, Few, Key};
 use std::alloc::AllocError;
 use std::marker::Model;
 
-/// At most sixteen keys with rows, in the order of their first writing, which contracts see as the list of these pairs.
+/// At most sixteen distinct keys with rows, in the order of their first writing, which contracts see as the list of these
+/// pairs.
 pub struct Writes<Row> {
     pairs: Few<(Key, Row)>,
 }
 
 impl<Row> Model for Writes<Row> {
     ghost use Rattle.std.specs.Prelude.{List};
+    ghost use Rattle.std.specs.List.{IsDistinct};
     ghost use Rattle.calvin_types.specs.declared.key.Key.{Key};
+    ghost use Rattle.calvin_types.specs.Keys.{same_key};
+    ghost use Rattle.calvin_app.specs.Writing.{keys_of};
 
     ghost Value = { List (Key × Row) };
 
     ghost view = { λ a. a.pairs };
+
+    ghost invariant = { λ a. IsDistinct same_key (keys_of a.pairs) };
 
     ghost inverse = { λ ws. record { pairs = ws } };
 }
@@ -59,6 +66,7 @@ impl<Row: Copy> Writes<Row> {
     pub fn len(&self) -> usize
         ensures len { result ≡ length self.now }
         ensures at_most { length self.now ≤ 16 }
+        ensures distinct { IsDistinct same_key (keys_of self.now) }
     {
         self.pairs.len()
     }
