@@ -7,7 +7,7 @@
 --     by_order o a b c      one of three, as an order says
 --     insert_key q keys, insert_all qs keys      rising keys with one more, or with several more, each in its place unless it is there
 --     takes q keys      whether a set of at most sixteen keys takes one more
---     partition_of count k      which of so many partitions stores k (Thomson et al. 2012, section 2: each record in one partition)
+--     partition_of count k      which of so many partitions stores k (Thomson et al. 2012, section 3: each record in one partition)
 use Rattle.std.specs.Prelude.{ℕ, Bool, true, ◌&&◌, List, [], ◌∷◌, length, nat_le, nat_lt, ◌%◌}
 use Rattle.std.specs.declared.cmp.Ordering.{Ordering}
 use Rattle.std.specs.declared.cmp.Ordering.TheVariants.{Less, Equal, Greater}
