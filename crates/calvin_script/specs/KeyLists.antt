@@ -1,7 +1,7 @@
 -- Keys, and sets of keys, as they are written.
 --     key d      the key `[table,id]`
 --     key_set form d      the set of a list of at most 16 keys, none twice, each written in a form
-use Rattle.std.specs.Prelude.{◌^◌, ◌&&◌, ◌==◌, List, [], length, nat_le, Option, Some, option_and_then, is_none}
+use Rattle.std.specs.Prelude.{◌^◌, ◌&&◌, List, [], length, nat_le, Option, Some, option_and_then, is_none}
 use Rattle.serde_json.specs.Data.{Data}
 use Rattle.serde_json.specs.Find.{at}
 use Rattle.calvin_types.specs.declared.key.Key.{Key}
