@@ -7,7 +7,7 @@ use Rattle.std.specs.Str.{is_utf8}
 use Rattle.serde_json.specs.Data.{Data}
 use Rattle.serde_json.specs.Read.{read}
 use Rattle.calvin_types.specs.declared.fault.Fault.{Fault}
-use Rattle.calvin_types.specs.declared.fault.Fault.TheVariants.{OutOfMemory, TooManyKeys, Repeated, BadConfig, TooLong, LocksOutOfOrder, NoKeys, NotHeld, RoundsSpent, NotCurrent, Known, NotComplete, NoNode, NoPacket, BadJson, BadScript, ScriptTooLong, ReadFailed, WriteFailed}
+use Rattle.calvin_types.specs.declared.fault.Fault.TheVariants.{OutOfMemory, BadJson, BadScript}
 use Rattle.calvin_script.specs.Grammar.{Grammar}
 use Rattle.calvin_script.specs.Scripts.{Contents, script}
 
@@ -29,24 +29,9 @@ script_from grammar bytes = and_then (json bytes) (λ d. or_fault BadScript (scr
 -- a fault is the one that is stated, but for want of memory; no other comes
 abbrev pub IsFault : {Y : Type 0} → Fault → Result Y Fault → Type 0
 IsFault OutOfMemory read = Unit {0}
-IsFault TooManyKeys read = ⊥
-IsFault Repeated read = ⊥
-IsFault BadConfig read = ⊥
-IsFault TooLong read = ⊥
-IsFault LocksOutOfOrder read = ⊥
-IsFault NoKeys read = ⊥
-IsFault NotHeld read = ⊥
-IsFault RoundsSpent read = ⊥
-IsFault NotCurrent read = ⊥
-IsFault Known read = ⊥
-IsFault NotComplete read = ⊥
-IsFault NoNode read = ⊥
-IsFault NoPacket read = ⊥
 IsFault BadJson read = read ≡ Err BadJson
 IsFault BadScript read = read ≡ Err BadScript
-IsFault ScriptTooLong read = ⊥
-IsFault ReadFailed read = ⊥
-IsFault WriteFailed read = ⊥
+IsFault _ read = ⊥
 
 -- what is returned, seen by view, is what is read
 abbrev pub Reads : {X Y : Type 0} → (X → Y) → Result X Fault → Result Y Fault → Type 0

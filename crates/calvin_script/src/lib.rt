@@ -20,3 +20,5 @@ pub use reading::script_from;
 
 #[cfg(test)]
 mod tests;
+#[cfg(test)]
+mod twice_tests;

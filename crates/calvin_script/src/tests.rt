@@ -5,7 +5,7 @@ use std::alloc::{AllocError, Global};
 use std::test::Fail;
 
 /// What the bytes are refused with, if they are.
-fn fault_of(alloc: Global, bytes: &[u8]) -> Option<Fault> {
+pub(crate) fn fault_of(alloc: Global, bytes: &[u8]) -> Option<Fault> {
     match script_from::<KvRequest>(alloc, bytes) {
         Ok(_script) => None,
         Err(fault) => Some(fault),
@@ -13,11 +13,11 @@ fn fault_of(alloc: Global, bytes: &[u8]) -> Option<Fault> {
 }
 
 /// A script of two partitions with these batches in its one epoch.
-fn with_batches(alloc: Global, batches: &str) -> Result<String, AllocError> {
+pub(crate) fn with_batches(alloc: Global, batches: &str) -> Result<String, AllocError> {
     format!(in alloc; r#"{{"partitions":2,"app":"kv","epochs":[[{batches}]]}}"#)
 }
 
-fn with_request(alloc: Global, request: &str) -> Result<String, AllocError> {
+pub(crate) fn with_request(alloc: Global, request: &str) -> Result<String, AllocError> {
     format!(in alloc;
         r#"{{"partitions":2,"app":"kv","epochs":[[{{"group":1,"txns":[{request}]}}]]}}"#
     )
@@ -338,36 +338,11 @@ fn longest_batch(rt: HostRuntime) -> Result<(), Fail> {
     Ok(())
 }
 
-/// The last one counts, whatever the others were.
-#[test]
-fn a_name_given_twice(rt: HostRuntime) {
-    let bad = Some(Fault::BadScript);
-    let table = [
-        (
-            r#"{"partitions":99,"app":"kv","epochs":[],"partitions":1}"#,
-            None,
-        ),
-        (
-            r#"{"partitions":1,"app":"kv","epochs":[],"partitions":99}"#,
-            bad,
-        ),
-        (r#"{"partitions":1,"app":7,"app":"kv","epochs":[]}"#, None),
-        (r#"{"partitions":1,"app":"kv","app":7,"epochs":[]}"#, bad),
-        (
-            r#"{"partitions":1,"app":"kv","epochs":[],"x":1,"x":2}"#,
-            bad,
-        ),
-    ];
-    for (text, fault) in table {
-        assert_eq!(rt; fault_of(rt.alloc(), text.as_bytes()), fault, "{text}");
-    }
-}
-
-fn key(table: u8, id: u64) -> Key {
+pub(crate) fn key(table: u8, id: u64) -> Key {
     Key { table, id }
 }
 
-fn id(client: u32, number: u32) -> RequestId {
+pub(crate) fn id(client: u32, number: u32) -> RequestId {
     RequestId { client, number }
 }
 

@@ -6,9 +6,10 @@
 --     rises keys      whether each key is below all that follow it
 --     by_order o a b c      one of three, as an order says
 --     insert_key q keys, insert_all qs keys      rising keys with one more, or with several more, each in its place unless it is there
+--     are_distinct keys      whether no key comes twice
 --     takes q keys      whether a set of at most sixteen keys takes one more
---     partition_of count k      which of so many partitions stores k (Thomson et al. 2012, section 2: each record in one partition)
-use Rattle.std.specs.Prelude.{ℕ, Bool, true, ◌&&◌, List, [], ◌∷◌, length, nat_le, nat_lt, ◌%◌}
+--     partition_of count k      which of so many partitions stores k (Thomson et al. 2012, section 3: each record in one partition)
+use Rattle.std.specs.Prelude.{ℕ, Bool, true, ◌&&◌, ◌==◌, List, [], ◌∷◌, length, nat_le, nat_lt, ◌%◌}
 use Rattle.std.specs.declared.cmp.Ordering.{Ordering}
 use Rattle.std.specs.declared.cmp.Ordering.TheVariants.{Less, Equal, Greater}
 use Rattle.std.specs.Ordering.{nat_cmp, ordering_then, is_lt, is_eq, eq_by_cmp}
@@ -52,6 +53,10 @@ insert_key q (k ∷ ks) = by_order (key_cmp q k) (q ∷ k ∷ ks) (k ∷ ks) (k 
 abbrev pub insert_all : List Key → List Key → List Key
 insert_all [] ks = ks
 insert_all (q ∷ qs) ks = insert_all qs (insert_key q ks)
+
+-- whether no key comes twice: the set of the keys has as many
+abbrev pub are_distinct : List Key → Bool
+are_distinct keys = length (insert_all keys []) == length keys
 
 -- whether a set of at most sixteen keys takes one more: a new one, for which there is room
 abbrev pub takes : Key → List Key → Bool

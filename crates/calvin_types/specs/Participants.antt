@@ -1,4 +1,4 @@
--- Which partitions take part in a request (Thomson et al. 2012, section 3.3).
+-- Which partitions take part in a request (Thomson et al. 2012, section 3.2).
 --     Site, site partitions partition      one of so many partitions
 --     is_local site k      whether the site stores the key k
 --     local_keys site keys      the keys that the site stores

@@ -173,57 +173,54 @@ fn faults(rt: HostRuntime) -> Result<(), Fail> {
     Ok(())
 }
 
+fn place(epoch: u8, n: u8) -> Place {
+    Place {
+        epoch: epoch as u64,
+        n: n as u32,
+    }
+}
+
+fn slot(epoch: u8, group: u8) -> Slot {
+    Slot {
+        epoch: epoch as u64,
+        group,
+    }
+}
+
+fn ballot(round: u8, replica: u8) -> Ballot {
+    Ballot {
+        round: round as u32,
+        replica,
+    }
+}
+
+fn node(replica: u8, partition: u8) -> NodeId {
+    NodeId { replica, partition }
+}
+
+fn request_id(client: u8, number: u8) -> RequestId {
+    RequestId {
+        client: client as u32,
+        number: number as u32,
+    }
+}
+
+fn key(table: u8, id: u8) -> Key {
+    Key {
+        table,
+        id: id as u64,
+    }
+}
+
 /// How two places, slots, ballots, nodes, names of requests and keys with these fields compare.
 fn compared(a: u8, b: u8, c: u8, d: u8) -> [Ordering; 6] {
     [
-        Place {
-            epoch: a as u64,
-            n: b as u32,
-        }
-        .cmp(&Place {
-            epoch: c as u64,
-            n: d as u32,
-        }),
-        Slot {
-            epoch: a as u64,
-            group: b,
-        }
-        .cmp(&Slot {
-            epoch: c as u64,
-            group: d,
-        }),
-        Ballot {
-            round: a as u32,
-            replica: b,
-        }
-        .cmp(&Ballot {
-            round: c as u32,
-            replica: d,
-        }),
-        NodeId {
-            replica: a,
-            partition: b,
-        }
-        .cmp(&NodeId {
-            replica: c,
-            partition: d,
-        }),
-        RequestId {
-            client: a as u32,
-            number: b as u32,
-        }
-        .cmp(&RequestId {
-            client: c as u32,
-            number: d as u32,
-        }),
-        Key {
-            table: a,
-            id: b as u64,
-        }
-        .cmp(&Key {
-            table: c,
-            id: d as u64,
-        }),
+        place(a, b).cmp(&place(c, d)),
+        slot(a, b).cmp(&slot(c, d)),
+        ballot(a, b).cmp(&ballot(c, d)),
+        node(a, b).cmp(&node(c, d)),
+        request_id(a, b).cmp(&request_id(c, d)),
+        key(a, b).cmp(&key(c, d)),
     ]
 }
 

@@ -44,7 +44,7 @@ pub enum Fault {
     /// The batch of a group isn't held yet.
     #[error("NotComplete")]
     NotComplete,
-    /// There is no such replica.
+    /// There is no such node or group.
     #[error("NoNode")]
     NoNode,
     /// No packet has the number.

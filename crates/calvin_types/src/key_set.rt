@@ -2,7 +2,7 @@
 ghost use Rattle.std.specs.Prelude.{◌≡◌, ◌==◌, ℕ, ◌<◌, ◌≤◌, ◌↔◌, [], ◌∷◌, length, IsTrue, false, nat_le, slice_get, ◌⊎◌, IfErr, IfOk, OnOk, OnErr, IsErr, IsErrOf, IsOkUnless, MatchResult};
 ghost use Rattle.std.specs.List.{filter, list_any, list_all};
 ghost use Rattle.calvin_types.specs.KeyPlaces.{IsAt, IsMissingAt};
-ghost use Rattle.calvin_types.specs.Keys.{rises, has, insert_key, insert_all, takes, partition_of};
+ghost use Rattle.calvin_types.specs.Keys.{rises, has, insert_key, insert_all, are_distinct, takes, partition_of};
 ghost use Rattle.calvin_types.specs.Participants.{site, is_local, local_keys};
 
 use crate::config::Config;
@@ -199,7 +199,7 @@ impl KeySet {
         ensures ok { IfOk result (λ all. all ≡ insert_all keys.now []) }
         ensures many { IsErrOf result Fault.TooManyKeys ↔ (16 < length keys.now) }
         ensures only { IfErr result (λ fault. (fault ≡ Fault.TooManyKeys) ⊎ (fault ≡ Fault.Repeated)) }
-        ensures repeated { IsErrOf result Fault.Repeated ↔ ((length keys.now ≤ 16) × (length (insert_all keys.now []) < length keys.now)) }
+        ensures repeated { IsErrOf result Fault.Repeated ↔ ((length keys.now ≤ 16) × (are_distinct keys.now ≡ false)) }
     {
         if keys.len() > MOST_KEYS {
             return Err(Fault::TooManyKeys);

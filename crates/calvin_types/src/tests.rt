@@ -324,18 +324,40 @@ fn roles(alloc: Global, reads: &[u64], writes: &[u64]) -> Result<[Role; 4], Faul
 }
 
 #[test]
-fn participants(rt: HostRuntime) -> Result<(), Fail> {
-    for (reads, writes, want) in [
-        // It only reads.
+fn participants_where_nothing_is_written(rt: HostRuntime) -> Result<(), Fail> {
+    for (reads, want) in [
         (
             [9, 2].as_slice(),
-            [].as_slice(),
             [Role::Absent, Role::Least, Role::Passive, Role::Absent],
         ),
+        // It declares nothing.
+        (&[], [Role::Absent; 4]),
+    ] {
+        assert_eq!(rt; roles(rt.alloc(), reads, &[])?, want, "{reads:?}");
+    }
+    Ok(())
+}
+
+#[test]
+fn participants_of_a_single_key(rt: HostRuntime) -> Result<(), Fail> {
+    let want = [Role::Absent, Role::Absent, Role::Least, Role::Absent];
+    for (reads, writes) in [([].as_slice(), [6].as_slice()), (&[6], &[6])] {
+        assert_eq!(rt;
+            roles(rt.alloc(), reads, writes)?,
+            want,
+            "{reads:?} {writes:?}"
+        );
+    }
+    Ok(())
+}
+
+#[test]
+fn participants_that_read_and_write(rt: HostRuntime) -> Result<(), Fail> {
+    for (reads, writes, want) in [
         // It writes above the least partition, with and without reading in a third one.
         (
-            &[0, 7],
-            &[7],
+            [0, 7].as_slice(),
+            [7].as_slice(),
             [Role::Least, Role::Absent, Role::Absent, Role::Active],
         ),
         (
@@ -343,25 +365,12 @@ fn participants(rt: HostRuntime) -> Result<(), Fail> {
             &[3],
             [Role::Absent, Role::Least, Role::Passive, Role::Active],
         ),
-        // It has a single key.
-        (
-            &[],
-            &[6],
-            [Role::Absent, Role::Absent, Role::Least, Role::Absent],
-        ),
-        (
-            &[6],
-            &[6],
-            [Role::Absent, Role::Absent, Role::Least, Role::Absent],
-        ),
         // It writes in the least partition and reads above.
         (
             &[3],
             &[4],
             [Role::Least, Role::Absent, Role::Absent, Role::Passive],
         ),
-        // It declares nothing.
-        (&[], &[], [Role::Absent; 4]),
     ] {
         assert_eq!(rt;
             roles(rt.alloc(), reads, writes)?,

@@ -6,8 +6,8 @@ use crate::config::Config;
 use crate::key_set::Sets;
 use crate::place::RequestId;
 
-/// A request: its name, the number of the attempt (1 for the first), the application's arguments, and the declared
-/// sets. A new attempt is made where the declared sets turn out not to be those that the request needs.
+/// A request: its name, the number of the attempt (1 to 8, counted from 1), the application's arguments, and the
+/// declared sets. A new attempt is made where the declared sets turn out not to be those that the request needs.
 #[derive(Clone, Copy, Debug, PartialEq, Eq)]
 pub struct Txn<Args> {
     pub id: RequestId,
@@ -17,7 +17,7 @@ pub struct Txn<Args> {
 }
 
 impl<Args: Copy> Txn<Args> {
-    /// Whether a partition takes part: it stores a declared key (Thomson et al. 2012, section 3.3: a participant).
+    /// Whether a partition takes part: it stores a declared key (Thomson et al. 2012, section 3.2: a participant).
     pub fn is_participant(&self, config: &Config, partition: u8) -> bool
         ensures { result ≡ has_local_key (site config.now.partitions partition) self.now }
     {
@@ -36,7 +36,7 @@ impl<Args: Copy> Txn<Args> {
 
     /// Whether a partition runs the request: it stores a key that is written, or is the least participant, so that a
     /// request that only reads has one that answers it. All active partitions compute the same answer (Thomson et al.
-    /// 2012, section 3.3: active participants store a key of the write set, the others are passive).
+    /// 2012, section 3.2: active participants store a key of the write set, the others are passive).
     pub fn is_active(&self, config: &Config, partition: u8) -> bool
         ensures { result ≡ is_active (site config.now.partitions partition) self.now }
     {

@@ -1,4 +1,5 @@
-use Rattle.std.proofs.Common.{◌≡◌, ◌+◌, sym, refl, ◌∙◌, ap, drop, get_or, arith, length}
+use Rattle.std.proofs.Common.{◌≡◌, ◌+◌, [], sym, refl, ◌∙◌, ap, drop, get_or, arith, length}
+use Rattle.std.proofs.lemmas.Bool.{ne_eqb}
 use Rattle.std.proofs.lemmas.Option.{slice_get-get_or}
 use Rattle.calvin_types.specs.Keys.{insert_all, insert_key}
 use Rattle.calvin_types.proofs.Risings.{insert_all-at, fewer, one_more, at_most_one_more}
@@ -19,7 +20,7 @@ returns-then-len-before-clause-repeated c =
     let q = get_or c.args.keys.now c.loop-key.key-index (record { table = 0; id = 0 }) in
     let same : length (insert_key q c.loop-key.all) ≡ length c.loop-key.all = ap length (sym c.in_ok-insert.ensures.ok) ∙ sym c.len.ensures.len ∙ c.if-len-before.true ∙ c.len-before.ensures.len in
     let less = fewer c.args.keys.now c.loop-key.all _ c.loop-key.key-index q (slice_get-get_or c.args.keys.now c.loop-key.key-index _ c.loop-key-test.true) c.loop-key.invariant.so_far c.loop-key.invariant.number same in
-    (λ _. (c.if-keys-gt-MOST_KEYS.false, less), λ _. refl)
+    (λ _. (c.if-keys-gt-MOST_KEYS.false, ne_eqb (length (insert_all c.args.keys.now [])) (length c.args.keys.now) (λ e. omega (arith, less, e))), λ _. refl)
 
 pub loop-key-preserved : goal.loop-key-preserved
 loop-key-preserved c =
