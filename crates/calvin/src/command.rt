@@ -5,8 +5,8 @@ ghost use Rattle.std.specs.Io.KnownBytes.{Appends};
 ghost use Rattle.clap.specs.Words.{app_of, subcommand_name_of};
 ghost use Rattle.calvin.specs.Line.{calvin, IsSerial, IsSerialLine, IsRun, NamesSerial};
 ghost use Rattle.calvin_edge.specs.Complaints.{complaint};
-ghost use Rattle.calvin_serial.specs.Engine.{serial_text, HasText};
-ghost use Rattle.calvin.specs.Statuses.{status_of, IsStatus, HasNoText, Tells};
+ghost use Rattle.calvin_serial.specs.Engine.{serial_text, HasText, HasBeginning};
+ghost use Rattle.calvin.specs.Statuses.{status_of, IsStatus, HasNoText, TellsRefusal};
 
 use calvin_edge::{Sink, Source, complaint, write_all};
 use calvin_serial::serial;
@@ -128,14 +128,28 @@ fn run_serial<S: Source, K: Sink, E: Sink>(
     error: &mut E,
 ) -> u8
     ensures statuses { IsStatus result }
+    ensures silent { result ≡ 0 → error.new ≡ error.old }
     ensures written { result ≡ 0 → IfSome (S.left input.old) (λ bytes. HasText (serial_text bytes)
         (λ text. Appends (K.taken output.old) (K.taken output.new) text)) }
-    ensures silent { result ≡ 0 → error.new ≡ error.old }
     ensures refused { result ≡ 2 → IfSome (S.left input.old) (λ bytes. HasNoText (serial_text bytes)) }
-    ensures untouched { (result ≡ 2) ⊎ (result ≡ 4) → output.new ≡ output.old }
     ensures failed { result ≡ 5 → (S.failures input.new ≡ S.failures input.old + 1) ⊎ (K.failures output.new ≡ K.failures output.old + 1) }
-    ensures told { result ≢ 0 → E.failures error.new ≡ E.failures error.old
-        → Tells result (E.taken error.old) (E.taken error.new) }
+    ensures read_well { result ≢ 5 → S.failures input.new ≡ S.failures input.old }
+    ensures wrote_well { result ≢ 5 → K.failures output.new ≡ K.failures output.old }
+    ensures untouched { (result ≡ 2) ⊎ (result ≡ 4) → output.new ≡ output.old }
+    ensures unread { S.failures input.new ≡ S.failures input.old + 1 → output.new ≡ output.old }
+    ensures beginning { K.failures output.new ≡ K.failures output.old + 1
+        → IfSome (S.left input.old) (λ bytes.
+        HasBeginning (serial_text bytes) (K.taken output.old) (K.taken output.new)) }
+    ensures told_refusal { result ≡ 2 → E.failures error.new ≡ E.failures error.old
+        → TellsRefusal (S.left input.old) (E.taken error.old) (E.taken error.new) }
+    ensures told_memory { result ≡ 4 → E.failures error.new ≡ E.failures error.old
+        → Appends (E.taken error.old) (E.taken error.new) (complaint Fault.OutOfMemory) }
+    ensures told_reading { S.failures input.new ≡ S.failures input.old + 1
+        → E.failures error.new ≡ E.failures error.old
+        → Appends (E.taken error.old) (E.taken error.new) (complaint Fault.ReadFailed) }
+    ensures told_writing { K.failures output.new ≡ K.failures output.old + 1
+        → E.failures error.new ≡ E.failures error.old
+        → Appends (E.taken error.old) (E.taken error.new) (complaint Fault.WriteFailed) }
 {
     match serial(alloc, input, output) {
         Ok(()) => 0,
@@ -161,17 +175,33 @@ pub fn command<W: AsStr, S: Source, K: Sink, E: Sink>(
     ensures written { IsSerialLine (map W.text words.now) → result ≡ 0
         → IfSome (S.left input.old) (λ bytes. HasText (serial_text bytes)
         (λ text. Appends (K.taken output.old) (K.taken output.new) text)) }
-    // It ends with 2 only where the script is refused, and with 5 only where a device failed.
+    // It ends with 2 only where the script is refused.
     ensures refused { IsSerialLine (map W.text words.now) → result ≡ 2
         → IfSome (S.left input.old) (λ bytes. HasNoText (serial_text bytes)) }
-    ensures failed { IsSerialLine (map W.text words.now) → result ≡ 5
-        → (S.failures input.new ≡ S.failures input.old + 1) ⊎ (K.failures output.new ≡ K.failures output.old + 1) }
-    // A fault of the script or of memory leaves the output as it was.
-    ensures untouched { IsSerialLine (map W.text words.now)
-        → (result ≡ 2) ⊎ (result ≡ 4) → output.new ≡ output.old }
+    // Status 5 says that a device failed, and no other status does.
+    ensures failed { result ≡ 5 → (S.failures input.new ≡ S.failures input.old + 1) ⊎ (K.failures output.new ≡ K.failures output.old + 1) }
+    ensures read_well { result ≢ 5 → S.failures input.new ≡ S.failures input.old }
+    ensures wrote_well { result ≢ 5 → K.failures output.new ≡ K.failures output.old }
+    // Nothing is written where the line or the script is refused, where memory runs out and where reading fails.
+    ensures untouched { (result ≡ 2) ⊎ (result ≡ 4) → output.new ≡ output.old }
+    ensures unread { S.failures input.new ≡ S.failures input.old + 1 → output.new ≡ output.old }
+    // Where writing the answers fails, a proper beginning of the text is out.
+    ensures beginning { IsSerialLine (map W.text words.now)
+        → K.failures output.new ≡ K.failures output.old + 1
+        → IfSome (S.left input.old) (λ bytes.
+        HasBeginning (serial_text bytes) (K.taken output.old) (K.taken output.new)) }
     // Standard error is told why, unless it fails itself.
-    ensures told { IsSerialLine (map W.text words.now) → result ≢ 0 → E.failures error.new ≡ E.failures error.old
-        → Tells result (E.taken error.old) (E.taken error.new) }
+    ensures told_refusal { IsSerialLine (map W.text words.now) → result ≡ 2
+        → E.failures error.new ≡ E.failures error.old
+        → TellsRefusal (S.left input.old) (E.taken error.old) (E.taken error.new) }
+    ensures told_memory { result ≡ 4 → E.failures error.new ≡ E.failures error.old
+        → Appends (E.taken error.old) (E.taken error.new) (complaint Fault.OutOfMemory) }
+    ensures told_reading { S.failures input.new ≡ S.failures input.old + 1
+        → E.failures error.new ≡ E.failures error.old
+        → Appends (E.taken error.old) (E.taken error.new) (complaint Fault.ReadFailed) }
+    ensures told_writing { K.failures output.new ≡ K.failures output.old + 1
+        → E.failures error.new ≡ E.failures error.old
+        → Appends (E.taken error.old) (E.taken error.new) (complaint Fault.WriteFailed) }
 {
     match parse(alloc, words) {
         Ok(Wish::Serial) => run_serial(alloc, input, output, error),
@@ -186,8 +216,15 @@ pub fn command<W: AsStr, S: Source, K: Sink, E: Sink>(
 
 /// Writes clap's help, and answers the status.
 fn print_help<K: Sink, E: Sink>(alloc: Global, help: &Error, output: &mut K, error: &mut E) -> u8
-    ensures statuses { IsStatus result }
+    ensures statuses { (result ≡ 0) ⊎ (result ≡ 4) ⊎ (result ≡ 5) }
     ensures silent { result ≡ 0 → error.new ≡ error.old }
+    ensures failed { result ≡ 5 → K.failures output.new ≡ K.failures output.old + 1 }
+    ensures wrote_well { result ≢ 5 → K.failures output.new ≡ K.failures output.old }
+    ensures untouched { result ≡ 4 → output.new ≡ output.old }
+    ensures told_memory { result ≡ 4 → E.failures error.new ≡ E.failures error.old
+        → Appends (E.taken error.old) (E.taken error.new) (complaint Fault.OutOfMemory) }
+    ensures told_writing { result ≡ 5 → E.failures error.new ≡ E.failures error.old
+        → Appends (E.taken error.old) (E.taken error.new) (complaint Fault.WriteFailed) }
 {
     match help.to_string(alloc) {
         Ok(text) => match write_all(output, text.as_bytes()) {
