@@ -3,7 +3,7 @@
 ghost use Rattle.std.specs.Prelude.{◌≡◌, ◌≢◌, ◌+◌, ◌↔◌, map, codes, IfOk, IfSome, IsTrue, Some, ◌⊎◌};
 ghost use Rattle.std.specs.Io.KnownBytes.{Appends};
 ghost use Rattle.clap.specs.Words.{app_of, subcommand_name_of};
-ghost use Rattle.calvin.specs.Line.{calvin, IsSerial, IsSerialLine, IsRun, NamesSerial};
+ghost use Rattle.calvin.specs.Line.{calvin, IsSerialLine, IsHelpLine, IsBadLine, IsPlainSerialLine, NamesSerial, IsRun, IsSerial, IsHelp, IsRefused};
 ghost use Rattle.calvin_edge.specs.Complaints.{complaint};
 ghost use Rattle.calvin_serial.specs.Engine.{serial_text, HasText, HasBeginning};
 ghost use Rattle.calvin.specs.Statuses.{status_of, IsStatus, HasNoText, TellsRefusal};
@@ -88,8 +88,10 @@ fn asks_serial(matches: &ArgMatches<'_>) -> bool
 }
 
 fn parse<'a, W: AsStr>(alloc: Global, words: &'a [W]) -> Result<Wish, Refusal>
+    ensures only { IsRun result → IsSerialLine (map W.text words.entry.now) }
     ensures serial { IsSerialLine (map W.text words.entry.now) → IsSerial result }
-    ensures only { IsRun result → NamesSerial (map W.text words.entry.now) }
+    ensures help { IsHelpLine (map W.text words.entry.now) → IsHelp result }
+    ensures bad { IsBadLine (map W.text words.entry.now) → IsRefused result }
 {
     let Ok(command) = line(alloc) else {
         return Err(Refusal::OutOfMemory);
@@ -159,6 +161,7 @@ fn run_serial<S: Source, K: Sink, E: Sink>(
 
 /// Runs a command line, and answers its status: 0 where all went well, 2 where the line or the script is refused, 4 for
 /// want of memory, 5 where a device failed. The line on standard error may fail to be written; the status stays.
+#[tactic(auto, using(crate::proofs::Named::is_named_line, crate::proofs::Words::is_plain_line))]
 pub fn command<W: AsStr, S: Source, K: Sink, E: Sink>(
     alloc: Global,
     words: &[W],
@@ -167,11 +170,17 @@ pub fn command<W: AsStr, S: Source, K: Sink, E: Sink>(
     error: &mut E,
 ) -> u8
     ensures statuses { IsStatus result }
-    // A line that doesn't name `serial` reads nothing.
-    ensures idle { ¬ NamesSerial (map W.text words.now) → input.new ≡ input.old }
+    // A line that clap takes names `serial`, and `calvin serial` is such a line.
+    ensures named { IsSerialLine (map W.text words.now) → NamesSerial (map W.text words.now) }
+    ensures plain { IsPlainSerialLine (map W.text words.now) → IsSerialLine (map W.text words.now) }
+    // Any other line reads nothing.
+    ensures idle { ¬ IsSerialLine (map W.text words.now) → input.new ≡ input.old }
+    // A line that asks for help isn't refused, and a bad line is, unless memory runs out.
+    ensures help { IsHelpLine (map W.text words.now) → result ≢ 2 }
+    ensures bad { IsBadLine (map W.text words.now) → (result ≡ 2) ⊎ (result ≡ 4) }
     // Where all went well, nothing is said.
     ensures silent { result ≡ 0 → error.new ≡ error.old }
-    // `calvin serial` that ends well wrote the text for the script.
+    // `serial` that ends well wrote the text for the script.
     ensures written { IsSerialLine (map W.text words.now) → result ≡ 0
         → IfSome (S.left input.old) (λ bytes. HasText (serial_text bytes)
         (λ text. Appends (K.taken output.old) (K.taken output.new) text)) }
@@ -191,6 +200,9 @@ pub fn command<W: AsStr, S: Source, K: Sink, E: Sink>(
         → IfSome (S.left input.old) (λ bytes.
         HasBeginning (serial_text bytes) (K.taken output.old) (K.taken output.new)) }
     // Standard error is told why, unless it fails itself.
+    ensures told_bad_line { ¬ IsSerialLine (map W.text words.now) → result ≡ 2
+        → E.failures error.new ≡ E.failures error.old
+        → Appends (E.taken error.old) (E.taken error.new) (codes "calvin: bad line\n") }
     ensures told_refusal { IsSerialLine (map W.text words.now) → result ≡ 2
         → E.failures error.new ≡ E.failures error.old
         → TellsRefusal (S.left input.old) (E.taken error.old) (E.taken error.new) }
@@ -207,7 +219,7 @@ pub fn command<W: AsStr, S: Source, K: Sink, E: Sink>(
         Ok(Wish::Serial) => run_serial(alloc, input, output, error),
         Ok(Wish::Help(help)) => print_help(alloc, &help, output, error),
         Err(Refusal::BadLine) => {
-            let _ = write_all(error, b"calvin: bad line\n");
+            let _ = write_all(error, "calvin: bad line\n".as_bytes());
             2
         }
         Err(Refusal::OutOfMemory) => end_with(Fault::OutOfMemory, error),
