@@ -29,7 +29,9 @@ The script comes on standard input, as JSON of at most 1,048,576 bytes:
   OP   [\"put\",k,v], [\"get\",[k, ..]] or [\"add\",k,d]
 
 Each request is answered by a line `epoch.n client:number answer`, in the merged
-order of all groups; the last line is `finished` and the last epoch, or none.";
+order of all groups; the last line is `finished` and the last epoch, or none.
+
+`calvin --help` lists the exit statuses.";
 
 /// What help says of statuses.
 const STATUS_HELP: &str = "\
@@ -38,7 +40,9 @@ Statuses:
   2  the command line or the script is refused, and nothing is printed
   4  memory ran out, and nothing is printed
   5  reading or writing failed
-Standard error has one line that says why.";
+Standard error has one line that says why.
+
+`calvin serial --help` shows the form of a script.";
 
 /// What a command line asks for.
 enum Wish {
@@ -122,6 +126,16 @@ pub fn end_with<E: Sink>(fault: Fault, error: &mut E) -> u8
     status_of(fault)
 }
 
+/// Tells that the line is bad, and answers the status.
+fn refuse_line<E: Sink>(error: &mut E) -> u8
+    ensures status { result ≡ 2 }
+    ensures told { E.failures error.new ≡ E.failures error.old
+        → Appends (E.taken error.old) (E.taken error.new) (codes "calvin: bad line\n") }
+{
+    let _ = write_all(error, "calvin: bad line\n".as_bytes());
+    2
+}
+
 /// Runs the engine `serial`, tells a fault, and answers the status.
 fn run_serial<S: Source, K: Sink, E: Sink>(
     alloc: Global,
@@ -134,9 +148,12 @@ fn run_serial<S: Source, K: Sink, E: Sink>(
     ensures written { result ≡ 0 → IfSome (S.left input.old) (λ bytes. HasText (serial_text bytes)
         (λ text. Appends (K.taken output.old) (K.taken output.new) text)) }
     ensures refused { result ≡ 2 → IfSome (S.left input.old) (λ bytes. HasNoText (serial_text bytes)) }
-    ensures failed { result ≡ 5 → (S.failures input.new ≡ S.failures input.old + 1) ⊎ (K.failures output.new ≡ K.failures output.old + 1) }
+    ensures failed { result ≡ 5 → (S.failures input.new ≡ S.failures input.old + 1)
+        ⊎ (K.failures output.new ≡ K.failures output.old + 1) }
     ensures read_well { result ≢ 5 → S.failures input.new ≡ S.failures input.old }
     ensures wrote_well { result ≢ 5 → K.failures output.new ≡ K.failures output.old }
+    ensures one_device { K.failures output.new ≡ K.failures output.old + 1
+        → S.failures input.new ≡ S.failures input.old }
     ensures untouched { (result ≡ 2) ⊎ (result ≡ 4) → output.new ≡ output.old }
     ensures unread { S.failures input.new ≡ S.failures input.old + 1 → output.new ≡ output.old }
     ensures beginning { K.failures output.new ≡ K.failures output.old + 1
@@ -187,10 +204,13 @@ pub fn command<W: AsStr, S: Source, K: Sink, E: Sink>(
     // It ends with 2 only where the script is refused.
     ensures refused { IsSerialLine (map W.text words.now) → result ≡ 2
         → IfSome (S.left input.old) (λ bytes. HasNoText (serial_text bytes)) }
-    // Status 5 says that a device failed, and no other status does.
-    ensures failed { result ≡ 5 → (S.failures input.new ≡ S.failures input.old + 1) ⊎ (K.failures output.new ≡ K.failures output.old + 1) }
+    // Status 5 says that the input or the output failed, once and not both, and no other status does.
+    ensures failed { result ≡ 5 → (S.failures input.new ≡ S.failures input.old + 1)
+        ⊎ (K.failures output.new ≡ K.failures output.old + 1) }
     ensures read_well { result ≢ 5 → S.failures input.new ≡ S.failures input.old }
     ensures wrote_well { result ≢ 5 → K.failures output.new ≡ K.failures output.old }
+    ensures one_device { K.failures output.new ≡ K.failures output.old + 1
+        → S.failures input.new ≡ S.failures input.old }
     // Nothing is written where the line or the script is refused, where memory runs out and where reading fails.
     ensures untouched { (result ≡ 2) ⊎ (result ≡ 4) → output.new ≡ output.old }
     ensures unread { S.failures input.new ≡ S.failures input.old + 1 → output.new ≡ output.old }
@@ -218,10 +238,7 @@ pub fn command<W: AsStr, S: Source, K: Sink, E: Sink>(
     match parse(alloc, words) {
         Ok(Wish::Serial) => run_serial(alloc, input, output, error),
         Ok(Wish::Help(help)) => print_help(alloc, &help, output, error),
-        Err(Refusal::BadLine) => {
-            let _ = write_all(error, "calvin: bad line\n".as_bytes());
-            2
-        }
+        Err(Refusal::BadLine) => refuse_line(error),
         Err(Refusal::OutOfMemory) => end_with(Fault::OutOfMemory, error),
     }
 }
