@@ -3,13 +3,15 @@
 --     IsSerialLine words      clap takes the words
 --     IsHelpLine words      clap answers the words with help
 --     IsBadLine words      clap refuses the words, and not with help
+--     HasHelpWord words      `help` stands among the words after the program's name
 --     IsPlainSerialLine words      the words are the program's name and `serial`
 --     NamesSerial words      as clap reads them, the words name the subcommand `serial`
 --     IsRun wish      the serial run is asked for
 --     IsSerial wish      the serial run is asked for, unless memory ran out
 --     IsHelp wish      help is asked for, unless memory ran out
 --     IsRefused wish      nothing is asked for
-use Rattle.std.specs.Prelude.{◌≡◌, ◌≢◌, ℕ, List, [], ◌∷◌, Some, option_map, Result, Ok, Err, codes, true}
+use Rattle.std.specs.Prelude.{◌≡◌, ◌≢◌, ℕ, List, [], ◌∷◌, Some, option_map, Result, Ok, Err, codes, drop, true}
+use Rattle.std.specs.List.{Contains}
 use Rattle.clap.specs.Words.{App, new_app, with_subcommand, subcommand_of, fault_of, IsAmong}
 use Rattle.clap.specs.declared.error.kind.ErrorKind.TheVariants.{DisplayHelp}
 use Rattle.calvin.specs.declared.command.Wish.{Wish}
@@ -33,6 +35,10 @@ IsHelpLine words = fault_of calvin words ≡ DisplayHelp ∷ []
 -- clap has an error for the words, and it isn't help
 abbrev pub IsBadLine : List (List ℕ) → Type 0
 IsBadLine words = (fault_of calvin words ≢ []) × ¬ IsAmong DisplayHelp (fault_of calvin words)
+
+-- one of the words after the program's name is `help`
+abbrev pub HasHelpWord : List (List ℕ) → Type 0
+HasHelpWord words = Contains (drop 1 words) (codes "help")
 
 -- the words of a line are the program's name and `serial`
 abbrev pub IsPlainSerialLine : List (List ℕ) → Type 0

@@ -3,7 +3,7 @@
 ghost use Rattle.std.specs.Prelude.{◌≡◌, ◌≢◌, ◌+◌, ◌↔◌, map, codes, IfOk, IfSome, IsTrue, Some, ◌⊎◌};
 ghost use Rattle.std.specs.Io.KnownBytes.{Appends};
 ghost use Rattle.clap.specs.Words.{app_of, subcommand_name_of};
-ghost use Rattle.calvin.specs.Line.{calvin, IsSerialLine, IsHelpLine, IsBadLine, IsPlainSerialLine, NamesSerial, IsRun, IsSerial, IsHelp, IsRefused};
+ghost use Rattle.calvin.specs.Line.{calvin, IsSerialLine, IsHelpLine, IsBadLine, HasHelpWord, IsPlainSerialLine, NamesSerial, IsRun, IsSerial, IsHelp, IsRefused};
 ghost use Rattle.calvin_edge.specs.Complaints.{complaint};
 ghost use Rattle.calvin_serial.specs.Engine.{serial_text, HasText, HasBeginning};
 ghost use Rattle.calvin.specs.Statuses.{status_of, IsStatus, HasNoText, TellsRefusal};
@@ -178,7 +178,7 @@ fn run_serial<S: Source, K: Sink, E: Sink>(
 
 /// Runs a command line, and answers its status: 0 where all went well, 2 where the line or the script is refused, 4 for
 /// want of memory, 5 where a device failed. The line on standard error may fail to be written; the status stays.
-#[tactic(auto, using(crate::proofs::Named::is_named_line, crate::proofs::Words::is_plain_line))]
+#[tactic(auto, using(crate::proofs::Named::is_named_line, crate::proofs::Words::is_plain_line, crate::proofs::Helped::is_covered))]
 pub fn command<W: AsStr, S: Source, K: Sink, E: Sink>(
     alloc: Global,
     words: &[W],
@@ -190,7 +190,10 @@ pub fn command<W: AsStr, S: Source, K: Sink, E: Sink>(
     // A line that clap takes names `serial`, and `calvin serial` is such a line.
     ensures named { IsSerialLine (map W.text words.now) → NamesSerial (map W.text words.now) }
     ensures plain { IsPlainSerialLine (map W.text words.now) → IsSerialLine (map W.text words.now) }
-    // Any other line reads nothing.
+    // A line without the word `help` is such a line, a call for help or a bad line.
+    ensures covered { ¬ HasHelpWord (map W.text words.now) → ¬ IsSerialLine (map W.text words.now)
+        → ¬ IsHelpLine (map W.text words.now) → IsBadLine (map W.text words.now) }
+    // A line that isn't for `serial` reads nothing.
     ensures idle { ¬ IsSerialLine (map W.text words.now) → input.new ≡ input.old }
     // A line that asks for help isn't refused, and a bad line is, unless memory runs out.
     ensures help { IsHelpLine (map W.text words.now) → result ≢ 2 }

@@ -1,4 +1,4 @@
-use Rattle.std.proofs.Common.{◌≡◌, ◌⊎◌, ⊎_elim, List, ℕ, map, ap, sym, subst, ◌∙◌, [], ◌∷◌}
+use Rattle.std.proofs.Common.{◌≡◌, ⊎_elim, List, ℕ, map, ap, subst, ◌∙◌}
 use Rattle.clap.specs.Words.{App, is_simple, is_simple_and_free, subcommand_of, fault_of, Kinds, HasKind}
 use Rattle.clap.specs.declared.error.Error.{Error}
 use Rattle.calvin.specs.Line.{calvin}
