@@ -1,11 +1,19 @@
 -- Which command lines ask for what.
 --     calvin      the program's command line, as clap sees it
---     IsSerial wish      the serial run is asked for, unless memory ran out
---     IsSerialLine words      the words are the program's name and `serial`
---     IsRun wish      the serial run is asked for
+--     IsSerialLine words      clap takes the words
+--     IsHelpLine words      clap answers the words with help
+--     IsBadLine words      clap refuses the words, and not with help
+--     HasHelpWord words      `help` stands among the words after the program's name
+--     IsPlainSerialLine words      the words are the program's name and `serial`
 --     NamesSerial words      as clap reads them, the words name the subcommand `serial`
-use Rattle.std.specs.Prelude.{◌≡◌, ℕ, List, [], ◌∷◌, Some, option_map, Result, Ok, Err, codes, true}
-use Rattle.clap.specs.Words.{App, new_app, with_subcommand, subcommand_of}
+--     IsRun wish      the serial run is asked for
+--     IsSerial wish      the serial run is asked for, unless memory ran out
+--     IsHelp wish      help is asked for, unless memory ran out
+--     IsRefused wish      nothing is asked for
+use Rattle.std.specs.Prelude.{◌≡◌, ◌≢◌, ℕ, List, [], ◌∷◌, Some, option_map, Result, Ok, Err, codes, drop, true}
+use Rattle.std.specs.List.{Contains}
+use Rattle.clap.specs.Words.{App, new_app, with_subcommand, subcommand_of, fault_of, IsAmong}
+use Rattle.clap.specs.declared.error.kind.ErrorKind.TheVariants.{DisplayHelp}
 use Rattle.calvin.specs.declared.command.Wish.{Wish}
 use Rattle.calvin.specs.declared.command.Wish.TheVariants.{Serial, Help}
 use Rattle.calvin.specs.declared.command.Refusal.{Refusal}
@@ -16,16 +24,29 @@ abbrev pub calvin : App
 calvin = let plain = new_app (codes "calvin") in
     with_subcommand (record plain { top = record plain.top { subcommand_required = true } }) (new_app (codes "serial")).top
 
--- it is the serial run that is asked for, unless memory runs out
-abbrev pub IsSerial : Result Wish Refusal → Type 0
-IsSerial (Ok Serial) = Unit {0}
-IsSerial (Ok (Help e)) = ⊥
-IsSerial (Err BadLine) = ⊥
-IsSerial (Err OutOfMemory) = Unit {0}
+-- clap has no error for the words
+abbrev pub IsSerialLine : List (List ℕ) → Type 0
+IsSerialLine words = fault_of calvin words ≡ []
+
+-- help is all that clap has for the words
+abbrev pub IsHelpLine : List (List ℕ) → Type 0
+IsHelpLine words = fault_of calvin words ≡ DisplayHelp ∷ []
+
+-- clap has an error for the words, and it isn't help
+abbrev pub IsBadLine : List (List ℕ) → Type 0
+IsBadLine words = (fault_of calvin words ≢ []) × ¬ IsAmong DisplayHelp (fault_of calvin words)
+
+-- one of the words after the program's name is `help`
+abbrev pub HasHelpWord : List (List ℕ) → Type 0
+HasHelpWord words = Contains (drop 1 words) (codes "help")
 
 -- the words of a line are the program's name and `serial`
-abbrev pub IsSerialLine : List (List ℕ) → Type 0
-IsSerialLine words = (program : List ℕ) × (words ≡ program ∷ codes "serial" ∷ [])
+abbrev pub IsPlainSerialLine : List (List ℕ) → Type 0
+IsPlainSerialLine words = (program : List ℕ) × (words ≡ program ∷ codes "serial" ∷ [])
+
+-- as clap reads them, the words name the subcommand `serial`
+abbrev pub NamesSerial : List (List ℕ) → Type 0
+NamesSerial words = option_map (λ s. s.0) (subcommand_of calvin words) ≡ Some (codes "serial")
 
 -- it is the serial run that is asked for
 abbrev pub IsRun : Result Wish Refusal → Type 0
@@ -33,6 +54,21 @@ IsRun (Ok Serial) = Unit {0}
 IsRun (Ok (Help e)) = ⊥
 IsRun (Err refusal) = ⊥
 
--- as clap reads them, the words name the subcommand `serial`
-abbrev pub NamesSerial : List (List ℕ) → Type 0
-NamesSerial words = option_map (λ s. s.0) (subcommand_of calvin words) ≡ Some (codes "serial")
+-- it is the serial run that is asked for, unless memory runs out
+abbrev pub IsSerial : Result Wish Refusal → Type 0
+IsSerial (Ok Serial) = Unit {0}
+IsSerial (Ok (Help e)) = ⊥
+IsSerial (Err BadLine) = ⊥
+IsSerial (Err OutOfMemory) = Unit {0}
+
+-- it is help that is asked for, unless memory runs out
+abbrev pub IsHelp : Result Wish Refusal → Type 0
+IsHelp (Ok Serial) = ⊥
+IsHelp (Ok (Help e)) = Unit {0}
+IsHelp (Err BadLine) = ⊥
+IsHelp (Err OutOfMemory) = Unit {0}
+
+-- nothing is asked for
+abbrev pub IsRefused : Result Wish Refusal → Type 0
+IsRefused (Ok wish) = ⊥
+IsRefused (Err refusal) = Unit {0}

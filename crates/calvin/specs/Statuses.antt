@@ -2,12 +2,13 @@
 --     status_of fault      the exit status of a fault: 2 where the script is refused, 4 for want of memory, 5 where a device failed
 --     IsStatus status      it is one of 0, 2, 4 and 5
 --     HasNoText answer      the script is refused
---     Tells status old new      the line of a fault with this status was added
-use Rattle.std.specs.Prelude.{◌≡◌, ℕ, List, Option, Result, Ok, Err, ◌⊎◌}
+--     TellsRefusal left old new      the line of a refusal was added: the script's own, where its bytes are known
+use Rattle.std.specs.Prelude.{◌≡◌, ℕ, List, Option, Result, Ok, Err, IfSome, ◌⊎◌}
 use Rattle.std.specs.Io.KnownBytes.{Appends}
 use Rattle.calvin_types.specs.declared.fault.Fault.{Fault}
 use Rattle.calvin_types.specs.declared.fault.Fault.TheVariants.{OutOfMemory, TooManyKeys, Repeated, BadConfig, TooLong, LocksOutOfOrder, NoKeys, NotHeld, RoundsSpent, NotCurrent, Known, NotComplete, NoNode, NoPacket, BadJson, BadScript, ScriptTooLong, ReadFailed, WriteFailed}
 use Rattle.calvin_edge.specs.Complaints.{complaint}
+use Rattle.calvin_serial.specs.Engine.{serial_text}
 
 abbrev pub status_of : Fault → ℕ
 status_of OutOfMemory = 4
@@ -37,5 +38,6 @@ abbrev pub HasNoText : Result (List ℕ) Fault → Type 0
 HasNoText (Ok text) = ⊥
 HasNoText (Err fault) = Unit {0}
 
-abbrev pub Tells : ℕ → Option (List ℕ) → Option (List ℕ) → Type 0
-Tells status old new = (fault : Fault) × (status ≡ status_of fault) × Appends old new (complaint fault)
+-- the line of a refusal was added: the script's own, where its bytes are known
+abbrev pub TellsRefusal : Option (List ℕ) → Option (List ℕ) → Option (List ℕ) → Type 0
+TellsRefusal left old new = (fault : Fault) × (status_of fault ≡ 2) × (IfSome left (λ bytes. serial_text bytes ≡ Err fault)) × Appends old new (complaint fault)

@@ -3,10 +3,10 @@
 ghost use Rattle.std.specs.Prelude.{◌≡◌, ◌≢◌, ◌+◌, ◌↔◌, map, codes, IfOk, IfSome, IsTrue, Some, ◌⊎◌};
 ghost use Rattle.std.specs.Io.KnownBytes.{Appends};
 ghost use Rattle.clap.specs.Words.{app_of, subcommand_name_of};
-ghost use Rattle.calvin.specs.Line.{calvin, IsSerial, IsSerialLine, IsRun, NamesSerial};
+ghost use Rattle.calvin.specs.Line.{calvin, IsSerialLine, IsHelpLine, IsBadLine, HasHelpWord, IsPlainSerialLine, NamesSerial, IsRun, IsSerial, IsHelp, IsRefused};
 ghost use Rattle.calvin_edge.specs.Complaints.{complaint};
-ghost use Rattle.calvin_serial.specs.Engine.{serial_text, HasText};
-ghost use Rattle.calvin.specs.Statuses.{status_of, IsStatus, HasNoText, Tells};
+ghost use Rattle.calvin_serial.specs.Engine.{serial_text, HasText, HasBeginning};
+ghost use Rattle.calvin.specs.Statuses.{status_of, IsStatus, HasNoText, TellsRefusal};
 
 use calvin_edge::{Sink, Source, complaint, write_all};
 use calvin_serial::serial;
@@ -29,7 +29,9 @@ The script comes on standard input, as JSON of at most 1,048,576 bytes:
   OP   [\"put\",k,v], [\"get\",[k, ..]] or [\"add\",k,d]
 
 Each request is answered by a line `epoch.n client:number answer`, in the merged
-order of all groups; the last line is `finished` and the last epoch, or none.";
+order of all groups; the last line is `finished` and the last epoch, or none.
+
+`calvin --help` lists the exit statuses.";
 
 /// What help says of statuses.
 const STATUS_HELP: &str = "\
@@ -38,7 +40,9 @@ Statuses:
   2  the command line or the script is refused, and nothing is printed
   4  memory ran out, and nothing is printed
   5  reading or writing failed
-Standard error has one line that says why.";
+Standard error has one line that says why.
+
+`calvin serial --help` shows the form of a script.";
 
 /// What a command line asks for.
 enum Wish {
@@ -88,8 +92,10 @@ fn asks_serial(matches: &ArgMatches<'_>) -> bool
 }
 
 fn parse<'a, W: AsStr>(alloc: Global, words: &'a [W]) -> Result<Wish, Refusal>
+    ensures only { IsRun result → IsSerialLine (map W.text words.entry.now) }
     ensures serial { IsSerialLine (map W.text words.entry.now) → IsSerial result }
-    ensures only { IsRun result → NamesSerial (map W.text words.entry.now) }
+    ensures help { IsHelpLine (map W.text words.entry.now) → IsHelp result }
+    ensures bad { IsBadLine (map W.text words.entry.now) → IsRefused result }
 {
     let Ok(command) = line(alloc) else {
         return Err(Refusal::OutOfMemory);
@@ -120,6 +126,16 @@ pub fn end_with<E: Sink>(fault: Fault, error: &mut E) -> u8
     status_of(fault)
 }
 
+/// Tells that the line is bad, and answers the status.
+fn refuse_line<E: Sink>(error: &mut E) -> u8
+    ensures status { result ≡ 2 }
+    ensures told { E.failures error.new ≡ E.failures error.old
+        → Appends (E.taken error.old) (E.taken error.new) (codes "calvin: bad line\n") }
+{
+    let _ = write_all(error, "calvin: bad line\n".as_bytes());
+    2
+}
+
 /// Runs the engine `serial`, tells a fault, and answers the status.
 fn run_serial<S: Source, K: Sink, E: Sink>(
     alloc: Global,
@@ -128,14 +144,31 @@ fn run_serial<S: Source, K: Sink, E: Sink>(
     error: &mut E,
 ) -> u8
     ensures statuses { IsStatus result }
+    ensures silent { result ≡ 0 → error.new ≡ error.old }
     ensures written { result ≡ 0 → IfSome (S.left input.old) (λ bytes. HasText (serial_text bytes)
         (λ text. Appends (K.taken output.old) (K.taken output.new) text)) }
-    ensures silent { result ≡ 0 → error.new ≡ error.old }
     ensures refused { result ≡ 2 → IfSome (S.left input.old) (λ bytes. HasNoText (serial_text bytes)) }
+    ensures failed { result ≡ 5 → (S.failures input.new ≡ S.failures input.old + 1)
+        ⊎ (K.failures output.new ≡ K.failures output.old + 1) }
+    ensures read_well { result ≢ 5 → S.failures input.new ≡ S.failures input.old }
+    ensures wrote_well { result ≢ 5 → K.failures output.new ≡ K.failures output.old }
+    ensures one_device { K.failures output.new ≡ K.failures output.old + 1
+        → S.failures input.new ≡ S.failures input.old }
     ensures untouched { (result ≡ 2) ⊎ (result ≡ 4) → output.new ≡ output.old }
-    ensures failed { result ≡ 5 → (S.failures input.new ≡ S.failures input.old + 1) ⊎ (K.failures output.new ≡ K.failures output.old + 1) }
-    ensures told { result ≢ 0 → E.failures error.new ≡ E.failures error.old
-        → Tells result (E.taken error.old) (E.taken error.new) }
+    ensures unread { S.failures input.new ≡ S.failures input.old + 1 → output.new ≡ output.old }
+    ensures beginning { K.failures output.new ≡ K.failures output.old + 1
+        → IfSome (S.left input.old) (λ bytes.
+        HasBeginning (serial_text bytes) (K.taken output.old) (K.taken output.new)) }
+    ensures told_refusal { result ≡ 2 → E.failures error.new ≡ E.failures error.old
+        → TellsRefusal (S.left input.old) (E.taken error.old) (E.taken error.new) }
+    ensures told_memory { result ≡ 4 → E.failures error.new ≡ E.failures error.old
+        → Appends (E.taken error.old) (E.taken error.new) (complaint Fault.OutOfMemory) }
+    ensures told_reading { S.failures input.new ≡ S.failures input.old + 1
+        → E.failures error.new ≡ E.failures error.old
+        → Appends (E.taken error.old) (E.taken error.new) (complaint Fault.ReadFailed) }
+    ensures told_writing { K.failures output.new ≡ K.failures output.old + 1
+        → E.failures error.new ≡ E.failures error.old
+        → Appends (E.taken error.old) (E.taken error.new) (complaint Fault.WriteFailed) }
 {
     match serial(alloc, input, output) {
         Ok(()) => 0,
@@ -145,6 +178,7 @@ fn run_serial<S: Source, K: Sink, E: Sink>(
 
 /// Runs a command line, and answers its status: 0 where all went well, 2 where the line or the script is refused, 4 for
 /// want of memory, 5 where a device failed. The line on standard error may fail to be written; the status stays.
+#[tactic(auto, using(crate::proofs::Named::is_named_line, crate::proofs::Words::is_plain_line, crate::proofs::Helped::is_covered))]
 pub fn command<W: AsStr, S: Source, K: Sink, E: Sink>(
     alloc: Global,
     words: &[W],
@@ -153,41 +187,76 @@ pub fn command<W: AsStr, S: Source, K: Sink, E: Sink>(
     error: &mut E,
 ) -> u8
     ensures statuses { IsStatus result }
-    // A line that doesn't name `serial` reads nothing.
-    ensures idle { ¬ NamesSerial (map W.text words.now) → input.new ≡ input.old }
+    // A line that clap takes names `serial`, and `calvin serial` is such a line.
+    ensures named { IsSerialLine (map W.text words.now) → NamesSerial (map W.text words.now) }
+    ensures plain { IsPlainSerialLine (map W.text words.now) → IsSerialLine (map W.text words.now) }
+    // A line without the word `help` is such a line, a call for help or a bad line.
+    ensures covered { ¬ HasHelpWord (map W.text words.now) → ¬ IsSerialLine (map W.text words.now)
+        → ¬ IsHelpLine (map W.text words.now) → IsBadLine (map W.text words.now) }
+    // A line that isn't for `serial` reads nothing.
+    ensures idle { ¬ IsSerialLine (map W.text words.now) → input.new ≡ input.old }
+    // A line that asks for help isn't refused, and a bad line is, unless memory runs out.
+    ensures help { IsHelpLine (map W.text words.now) → result ≢ 2 }
+    ensures bad { IsBadLine (map W.text words.now) → (result ≡ 2) ⊎ (result ≡ 4) }
     // Where all went well, nothing is said.
     ensures silent { result ≡ 0 → error.new ≡ error.old }
-    // `calvin serial` that ends well wrote the text for the script.
+    // `serial` that ends well wrote the text for the script.
     ensures written { IsSerialLine (map W.text words.now) → result ≡ 0
         → IfSome (S.left input.old) (λ bytes. HasText (serial_text bytes)
         (λ text. Appends (K.taken output.old) (K.taken output.new) text)) }
-    // It ends with 2 only where the script is refused, and with 5 only where a device failed.
+    // It ends with 2 only where the script is refused.
     ensures refused { IsSerialLine (map W.text words.now) → result ≡ 2
         → IfSome (S.left input.old) (λ bytes. HasNoText (serial_text bytes)) }
-    ensures failed { IsSerialLine (map W.text words.now) → result ≡ 5
-        → (S.failures input.new ≡ S.failures input.old + 1) ⊎ (K.failures output.new ≡ K.failures output.old + 1) }
-    // A fault of the script or of memory leaves the output as it was.
-    ensures untouched { IsSerialLine (map W.text words.now)
-        → (result ≡ 2) ⊎ (result ≡ 4) → output.new ≡ output.old }
+    // Status 5 says that the input or the output failed, once and not both, and no other status does.
+    ensures failed { result ≡ 5 → (S.failures input.new ≡ S.failures input.old + 1)
+        ⊎ (K.failures output.new ≡ K.failures output.old + 1) }
+    ensures read_well { result ≢ 5 → S.failures input.new ≡ S.failures input.old }
+    ensures wrote_well { result ≢ 5 → K.failures output.new ≡ K.failures output.old }
+    ensures one_device { K.failures output.new ≡ K.failures output.old + 1
+        → S.failures input.new ≡ S.failures input.old }
+    // Nothing is written where the line or the script is refused, where memory runs out and where reading fails.
+    ensures untouched { (result ≡ 2) ⊎ (result ≡ 4) → output.new ≡ output.old }
+    ensures unread { S.failures input.new ≡ S.failures input.old + 1 → output.new ≡ output.old }
+    // Where writing the answers fails, a proper beginning of the text is out.
+    ensures beginning { IsSerialLine (map W.text words.now)
+        → K.failures output.new ≡ K.failures output.old + 1
+        → IfSome (S.left input.old) (λ bytes.
+        HasBeginning (serial_text bytes) (K.taken output.old) (K.taken output.new)) }
     // Standard error is told why, unless it fails itself.
-    ensures told { IsSerialLine (map W.text words.now) → result ≢ 0 → E.failures error.new ≡ E.failures error.old
-        → Tells result (E.taken error.old) (E.taken error.new) }
+    ensures told_bad_line { ¬ IsSerialLine (map W.text words.now) → result ≡ 2
+        → E.failures error.new ≡ E.failures error.old
+        → Appends (E.taken error.old) (E.taken error.new) (codes "calvin: bad line\n") }
+    ensures told_refusal { IsSerialLine (map W.text words.now) → result ≡ 2
+        → E.failures error.new ≡ E.failures error.old
+        → TellsRefusal (S.left input.old) (E.taken error.old) (E.taken error.new) }
+    ensures told_memory { result ≡ 4 → E.failures error.new ≡ E.failures error.old
+        → Appends (E.taken error.old) (E.taken error.new) (complaint Fault.OutOfMemory) }
+    ensures told_reading { S.failures input.new ≡ S.failures input.old + 1
+        → E.failures error.new ≡ E.failures error.old
+        → Appends (E.taken error.old) (E.taken error.new) (complaint Fault.ReadFailed) }
+    ensures told_writing { K.failures output.new ≡ K.failures output.old + 1
+        → E.failures error.new ≡ E.failures error.old
+        → Appends (E.taken error.old) (E.taken error.new) (complaint Fault.WriteFailed) }
 {
     match parse(alloc, words) {
         Ok(Wish::Serial) => run_serial(alloc, input, output, error),
         Ok(Wish::Help(help)) => print_help(alloc, &help, output, error),
-        Err(Refusal::BadLine) => {
-            let _ = write_all(error, b"calvin: bad line\n");
-            2
-        }
+        Err(Refusal::BadLine) => refuse_line(error),
         Err(Refusal::OutOfMemory) => end_with(Fault::OutOfMemory, error),
     }
 }
 
 /// Writes clap's help, and answers the status.
 fn print_help<K: Sink, E: Sink>(alloc: Global, help: &Error, output: &mut K, error: &mut E) -> u8
-    ensures statuses { IsStatus result }
+    ensures statuses { (result ≡ 0) ⊎ (result ≡ 4) ⊎ (result ≡ 5) }
     ensures silent { result ≡ 0 → error.new ≡ error.old }
+    ensures failed { result ≡ 5 → K.failures output.new ≡ K.failures output.old + 1 }
+    ensures wrote_well { result ≢ 5 → K.failures output.new ≡ K.failures output.old }
+    ensures untouched { result ≡ 4 → output.new ≡ output.old }
+    ensures told_memory { result ≡ 4 → E.failures error.new ≡ E.failures error.old
+        → Appends (E.taken error.old) (E.taken error.new) (complaint Fault.OutOfMemory) }
+    ensures told_writing { result ≡ 5 → E.failures error.new ≡ E.failures error.old
+        → Appends (E.taken error.old) (E.taken error.new) (complaint Fault.WriteFailed) }
 {
     match help.to_string(alloc) {
         Ok(text) => match write_all(output, text.as_bytes()) {

@@ -139,36 +139,31 @@ fn has_text(whole: &[u8], part: &str) -> bool {
     }
 }
 
-#[test]
-fn help_is_shown(rt: HostRuntime) {
-    let alloc = rt.alloc();
-    let lines: [&[&str]; 3] = [
-        &["calvin", "--help"],
-        &["calvin", "-h"],
-        &["calvin", "help"],
-    ];
-    for words in lines {
-        let mut input = MemorySource::new(b"");
-        let mut output = MemorySink::new(alloc);
-        let mut error = MemorySink::new(alloc);
-        assert_eq!(rt;
-            command(alloc, words, &mut input, &mut output, &mut error),
-            0
-        );
-        assert!(rt; has_text(output.taken.as_slice(), "serial"));
-        assert!(rt; has_text(output.taken.as_slice(), "Statuses:"));
-        assert_eq!(rt; error.taken.len(), 0);
-    }
+/// Runs a line that asks for help, whose text has these parts.
+fn helps(rt: &impl Abort, alloc: Global, words: &[&str], parts: &[&str]) {
     let mut input = MemorySource::new(b"");
     let mut output = MemorySink::new(alloc);
     let mut error = MemorySink::new(alloc);
-    let words = ["calvin", "serial", "--help"];
     assert_eq!(rt;
-        command(alloc, &words, &mut input, &mut output, &mut error),
+        command(alloc, words, &mut input, &mut output, &mut error),
         0
     );
-    assert!(rt; has_text(output.taken.as_slice(), "partitions"));
+    for part in parts {
+        assert!(rt; has_text(output.taken.as_slice(), part), "{part}");
+    }
     assert_eq!(rt; error.taken.len(), 0);
+}
+
+#[test]
+fn help_is_shown(rt: HostRuntime) {
+    let alloc = rt.alloc();
+    let parts = ["serial", "Statuses:", "calvin serial --help"];
+    helps(&rt, alloc, &["calvin", "--help"], &parts);
+    helps(&rt, alloc, &["calvin", "-h"], &parts);
+    helps(&rt, alloc, &["calvin", "help"], &parts);
+    let parts = ["partitions", "finished", "calvin --help"];
+    helps(&rt, alloc, &["calvin", "serial", "--help"], &parts);
+    helps(&rt, alloc, &["calvin", "help", "serial"], &parts);
 }
 
 #[test]
@@ -231,10 +226,29 @@ fn failing_readers(rt: HostRuntime) {
     }
 }
 
-#[test]
-fn failing_writers(rt: HostRuntime) {
-    let alloc = rt.alloc();
-    let words = ["calvin", "serial"];
+/// Runs a script to the end of this output, which fails after `out` bytes of the text.
+fn stops_after(rt: &impl Abort, alloc: Global, output: &mut FailingSink, out: usize) {
+    let mut input = MemorySource::new(PUT_THEN_GET.as_bytes());
+    let mut error = MemorySink::new(alloc);
+    assert_eq!(rt;
+        command(alloc, &["calvin", "serial"], &mut input, output, &mut error),
+        5
+    );
+    assert_eq!(rt;
+        error.taken.as_slice(),
+        b"calvin: 96 WriteFailed\n".as_slice()
+    );
+    assert_eq!(rt; output.taken.len(), out);
+    assert!(rt;
+        PUT_THEN_GET_TEXT
+            .as_bytes()
+            .starts_with(output.taken.as_slice())
+    );
+    assert!(rt; output.failures.is_raised());
+}
+
+/// The calls, the bytes and the bytes of a call after which an output fails, and how many bytes are out then.
+fn failing_writers_by(rt: &impl Abort, alloc: Global, failure: WriteFailure) {
     let whole = PUT_THEN_GET_TEXT.len();
     let rows = [
         (usize::MAX, 0, 9, 0),
@@ -245,38 +259,21 @@ fn failing_writers(rt: HostRuntime) {
         (usize::MAX, whole - 1, 1, whole - 1),
     ];
     for (calls, bytes, most, out) in rows {
-        for takes_none in [false, true] {
-            let failure = if takes_none {
-                WriteFailure::TakesNone
-            } else {
-                WriteFailure::Refused
-            };
-            let mut input = MemorySource::new(PUT_THEN_GET.as_bytes());
-            let mut output = FailingSink {
-                calls,
-                bytes,
-                most,
-                failure,
-                ..FailingSink::new(alloc)
-            };
-            let mut error = MemorySink::new(alloc);
-            assert_eq!(rt;
-                command(alloc, &words, &mut input, &mut output, &mut error),
-                5
-            );
-            assert_eq!(rt;
-                error.taken.as_slice(),
-                b"calvin: 96 WriteFailed\n".as_slice()
-            );
-            assert_eq!(rt; output.taken.len(), out);
-            assert!(rt;
-                PUT_THEN_GET_TEXT
-                    .as_bytes()
-                    .starts_with(output.taken.as_slice())
-            );
-            assert!(rt; output.failures.is_raised());
-        }
+        let mut output = FailingSink {
+            calls,
+            bytes,
+            most,
+            failure,
+            ..FailingSink::new(alloc)
+        };
+        stops_after(rt, alloc, &mut output, out);
     }
+}
+
+#[test]
+fn failing_writers(rt: HostRuntime) {
+    failing_writers_by(&rt, rt.alloc(), WriteFailure::Refused);
+    failing_writers_by(&rt, rt.alloc(), WriteFailure::TakesNone);
 }
 
 #[test]

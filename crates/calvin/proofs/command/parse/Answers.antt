@@ -1,16 +1,29 @@
-use Rattle.std.proofs.Common.{ap, ap₂, ◌∙◌}
-use Rattle.clap.specs.Words.{takes, subcommand_of, is_simple}
-use Rattle.calvin.proofs.Words.{is_taken, is_simple_line, name_is}
+use Rattle.std.proofs.Common.{◌≡◌, ⊎_elim, List, ℕ, map, ap, subst, ◌∙◌}
+use Rattle.clap.specs.Words.{App, is_simple, is_simple_and_free, subcommand_of, fault_of, Kinds, HasKind}
+use Rattle.clap.specs.declared.error.Error.{Error}
+use Rattle.calvin.specs.Line.{calvin}
+use Rattle.calvin.proofs.Named.{is_named_line}
+use Rattle.calvin.proofs.Words.{is_simple_line, is_free_line, name_is}
 use Rattle.calvin.proofs.command.parse.Goals as goal
 
+kinds_at : (app : App) (words : List (List ℕ)) (kinds : Kinds) (e : Error) → app ≡ calvin → HasKind (fault_of app words) e → fault_of calvin words ≡ kinds → HasKind kinds e
+kinds_at app words kinds e same has is = subst (λ k. HasKind k e) (ap (λ (a : App). fault_of a words) same ∙ is) has
+
 pub returns-then-not-asks_serial-clause-serial : goal.returns-then-not-asks_serial-clause-serial
-returns-then-not-asks_serial-clause-serial g c = λ line. let program = line.0 in let h = line.1 in
+returns-then-not-asks_serial-clause-serial g c = λ taken. let words = map g.W.AsStr.text c.args.words.now in
     let m = c.in-Ok-try_get_matches_from.ensures.matches (ap is_simple c.in-Ok.ensures ∙ is_simple_line) in
-    let t = c.asks_serial.ensures.1 (name_is c.in-Ok-try_get_matches_from.matches program (m.1 ∙ ap₂ subcommand_of c.in-Ok.ensures h)) in
+    let read = m.1 ∙ ap (λ (a : App). subcommand_of a words) c.in-Ok.ensures in
+    let t = c.asks_serial.ensures.1 (name_is c.in-Ok-try_get_matches_from.matches words read (is_named_line words taken)) in
     let f = c.if-not-asks_serial.true in cc
 
-pub returns-in-DisplayHelp-clause-serial : goal.returns-in-DisplayHelp-clause-serial
-returns-in-DisplayHelp-clause-serial g c = λ line. let program = line.0 in let h = line.1 in let k = c.in-Err.ensures.passes (ap₂ takes c.in-Ok.ensures h ∙ is_taken program) in let i = c.in-DisplayHelp.is in let e = c.kind.ensures in cc
-
 pub returns-in_default-kind-clause-serial : goal.returns-in_default-kind-clause-serial
-returns-in_default-kind-clause-serial g c = λ line. let program = line.0 in let h = line.1 in let k = c.in-Err.ensures.passes (ap₂ takes c.in-Ok.ensures h ∙ is_taken program) in c.in_default-kind.not-OutOfMemory (c.kind.ensures ∙ k)
+returns-in_default-kind-clause-serial g c = λ taken.
+    let has = c.in-Err.ensures.kinds (ap is_simple_and_free c.in-Ok.ensures ∙ is_free_line) in
+    ⊎_elim (λ memory. c.in_default-kind.not-OutOfMemory (c.kind.ensures ∙ memory)) (λ none. none) (kinds_at _ _ _ c.in-Err.e c.in-Ok.ensures has taken)
+
+pub returns-in_default-kind-clause-help : goal.returns-in_default-kind-clause-help
+returns-in_default-kind-clause-help g c = λ help.
+    let has = c.in-Err.ensures.kinds (ap is_simple_and_free c.in-Ok.ensures ∙ is_free_line) in
+    ⊎_elim (λ memory. c.in_default-kind.not-OutOfMemory (c.kind.ensures ∙ memory))
+    (⊎_elim (λ asked. c.in_default-kind.not-DisplayHelp (c.kind.ensures ∙ asked)) (λ none. none))
+    (kinds_at _ _ _ c.in-Err.e c.in-Ok.ensures has help)

@@ -1,0 +1,136 @@
+-- A line that clap takes names `serial`: the other subcommand is `help`, which clap answers itself, and one of the two is required.
+use Rattle.std.proofs.Common.{◌≡◌, ℕ, Bool, cond, true, false, refl, sym, subst, List, [], ◌∷◌, codes, Option, Some, None, option_map, is_some}
+use Rattle.std.specs.List.{fold}
+use Rattle.std.specs.Str.{bytes_eq}
+use Rattle.clap.specs.Lexer.{long_of, short_of}
+use Rattle.clap.specs.Kinds.{Kinds, or_else}
+use Rattle.clap.specs.Simple.{Shape, argument_words, built, entered, names_of}
+use Rattle.clap.specs.Faults.{check_fault, defaults_fault, entered_fault, fault_of, other_fault, settle_fault, turn_fault, walk_fault, word_fault}
+use Rattle.clap.specs.Walk.{Held, Names, Outcome, Row, Rule, Step, Text, Waiting, Walk, after_flag, after_step, answers_to, bundle, done, finished, idle, long_met, arg_by_long, long_or_other, next, nothing_held, option, plain, plain_word, positional, refused, settled, short_or_plain, subcommand, subcommand_or_other, to_positional, trailing, value, waits, walk, walk_from, walked, word_met, arg_by_index}
+use Rattle.clap.specs.declared.error.kind.ErrorKind.{ErrorKind}
+use Rattle.calvin.specs.Line.{calvin, NamesSerial}
+
+-- the command as clap builds it
+abbrev top : Shape
+top = (built calvin).top
+
+abbrev names : Names
+names = names_of (built calvin)
+
+IsEmpty : Kinds → Type 0
+IsEmpty [] = Unit {0}
+IsEmpty (k ∷ ks) = ⊥
+
+not_empty : (k : ErrorKind) (ks : Kinds) → k ∷ ks ≡ [] → ⊥
+unfolding IsEmpty
+not_empty k ks e = subst IsEmpty (sym e) tt
+
+first_empty : (a b : Kinds) → or_else a b ≡ [] → a ≡ []
+first_empty [] b e = refl
+first_empty (k ∷ ks) b e = e
+
+second_empty : (a b : Kinds) → or_else a b ≡ [] → b ≡ []
+second_empty [] b e = e
+second_empty (k ∷ ks) b e = absurd (not_empty k ks e)
+
+-- where a walk stopped, if it did
+abbrev IsStop : Option (Text × List Text) → Type 0
+IsStop None = Unit {0}
+IsStop (Some p) = p.0 ≡ codes "serial"
+
+-- a step enters no subcommand but `serial`
+abbrev IsStep : Step → Type 0
+IsStep (next waiting) = Unit {0}
+IsStep (trailing position) = Unit {0}
+IsStep (subcommand name) = name ≡ codes "serial"
+IsStep value = Unit {0}
+
+plain_step : (c : List Rule) (waiting : Waiting) (word : Text) (h : Held) → IsStep (plain_word c waiting word h).1
+plain_step c idle word h = tt
+plain_step c (option id) word h = tt
+plain_step c positional word h = tt
+
+flag_step : (c : List Rule) (waiting : Waiting) (word : Text) (h : Held) (o : Outcome) → IsStep (after_flag c waiting word h o).1
+flag_step c waiting word h done = tt
+flag_step c waiting word h (waits id) = tt
+flag_step c waiting word h plain = plain_step c waiting word h
+flag_step c waiting word h refused = plain_step c waiting word h
+
+short_step : (c : List Rule) (waiting : Waiting) (word : Text) (flags : Option Text) (h : Held) → IsStep (short_or_plain c waiting word flags h).1
+short_step c waiting word None h = plain_step c waiting word h
+short_step c waiting word (Some flags) h = flag_step c waiting word (bundle c flags h).0 (bundle c flags h).1
+
+long_step : (c : List Rule) (waiting : Waiting) (word : Text) (long : Option (Text × Option Text)) (h : Held) → IsStep (long_or_other c waiting word long h).1
+long_step c waiting word None h = short_step c waiting word (short_of word) h
+long_step c waiting word (Some p) h =
+    flag_step c waiting word (long_met c (arg_by_long c p.0) p.1 h).0 (long_met c (arg_by_long c p.0) p.1 h).1
+
+other_step : (c : List Rule) (waiting : Waiting) (position : ℕ) (word : Text) (h : Held) (b : Bool)
+    → IsStep (cond b (h, trailing position) (long_or_other c waiting word (long_of word) h)).1
+other_step c waiting position word h true = tt
+other_step c waiting position word h false = long_step c waiting word (long_of word) h
+
+-- a word that names a subcommand names `serial`, unless clap answers it by help
+named_step : (waiting : Waiting) (position : ℕ) (word : Text) (h : Held) (is_serial is_help : Bool)
+    → let met = option_map (λ (s : Text × List Text). s.0) (cond is_serial (Some (codes "serial", [])) (cond is_help (Some (codes "help", [])) None)) in
+    other_fault top met word h ≡ [] → IsStep (subcommand_or_other top.rules met waiting position word h).1
+named_step waiting position word h true is_help none = refl
+named_step waiting position word h false true none = absurd (not_empty _ _ none)
+named_step waiting position word h false false none = other_step top.rules waiting position word h (bytes_eq word (45 ∷ 45 ∷ []))
+
+no_name_step : (waiting : Waiting) (position : ℕ) (word : Text) (h : Held) → IsStep (subcommand_or_other top.rules None waiting position word h).1
+no_name_step waiting position word h = other_step top.rules waiting position word h (bytes_eq word (45 ∷ 45 ∷ []))
+
+met_step : (is_trailing : Bool) (waiting : Waiting) (position : ℕ) (word : Text) (h : Held)
+    → word_fault top names is_trailing waiting word h ≡ [] → IsStep (word_met top.rules names is_trailing waiting position word h).1
+met_step true waiting position word h none = tt
+met_step false idle position word h none =
+    named_step idle position word h (answers_to word (codes "serial", [])) (answers_to word (codes "help", [])) none
+met_step false (option id) position word h none = no_name_step (option id) position word h
+met_step false positional position word h none = no_name_step positional position word h
+
+-- ---- the walk
+
+stop_positional : (c : List Rule) (a : Option Rule) (word : Text) (w : Walk) (h : Held) → IsStop w.stopped → IsStop (to_positional c a word w h).stopped
+stop_positional c None word w h stop = stop
+stop_positional c (Some a) word w h stop = tt
+
+stop_step : (c : List Rule) (word : Text) (w : Walk) (h : Held) (step : Step) → IsStep step → IsStop w.stopped → IsStop (after_step c word w h step).stopped
+stop_step c word w h (next waiting) is stop = stop
+stop_step c word w h (trailing position) is stop = stop
+stop_step c word w h (subcommand name) is stop = is
+stop_step c word w h value is stop = stop_positional c (arg_by_index c w.position) word w h stop
+
+turn_stops : (w : Walk) (word : Text) (stopped : Option (Text × List Text)) → w.stopped ≡ stopped → IsStop stopped
+    → turn_fault top names (record w { stopped = stopped }) word ≡ [] → IsStop (walked top.rules names (record w { stopped = stopped }) word).stopped
+unfolding walked
+turn_stops w word (Some p) same stop none = stop
+turn_stops w word None same stop none =
+    let met = word_met top.rules names w.is_trailing w.waiting w.position word w.held in
+    stop_step top.rules word (record w { stopped = None }) met.0 met.1
+    (met_step w.is_trailing w.waiting w.position word w.held (first_empty _ _ none)) tt
+
+walk_stops : (words : List Text) (w : Walk) → IsStop w.stopped → walk_fault top names w words ≡ [] → IsStop (fold (walked top.rules names) w words).stopped
+unfolding walk_fault
+walk_stops [] w stop none = stop
+walk_stops (word ∷ rest) w stop none =
+    walk_stops rest (walked top.rules names w word) (turn_stops w word w.stopped refl stop (first_empty _ _ none)) (second_empty _ _ none)
+
+-- ---- the subcommand
+
+entered_named : (stop : Option (Text × List Text)) (rows : List Row) → IsStop stop → check_fault top rows (is_some (entered (built calvin) stop)) ≡ []
+    → option_map (λ s. s.0) (entered (built calvin) stop) ≡ Some (codes "serial")
+entered_named None rows is none = absurd (not_empty _ _ none)
+entered_named (Some p) rows is none =
+    subst (λ (name : Text). option_map (λ s. s.0) (entered (built calvin) (Some (name, p.1))) ≡ Some (codes "serial")) (sym is) refl
+
+pub is_named_line : (words : List Text) → fault_of calvin words ≡ [] → NamesSerial words
+is_named_line words none =
+    let args = argument_words calvin words in
+    let end = walk top.rules names nothing_held args in
+    let walked_well = first_empty (walk_fault top names (walk_from nothing_held) args) _ none in
+    let after_walk = second_empty (walk_fault top names (walk_from nothing_held) args) _ none in
+    let after_entry = second_empty (entered_fault (built calvin) end.stopped) _ after_walk in
+    let after_settling = second_empty (settle_fault top.rules top.args_override_self end.held) _ after_entry in
+    let checked = second_empty (defaults_fault (settled top.rules end.held).rows top.rules) _ after_settling in
+    entered_named end.stopped (finished top.rules end.held) (walk_stops args (walk_from nothing_held) tt walked_well) checked
