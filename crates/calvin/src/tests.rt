@@ -1,5 +1,5 @@
-//! The worked cases of `calvin serial`, and what no clause says: which words are taken, help, and the devices' failures
-//! seen through the program.
+//! The worked cases of `calvin serial`; what no clause says, which is the text of help and what lines with the word
+//! `help` come to; and bad lines and failing devices seen through the program.
 use crate::command::command;
 use calvin_edge::{FailingSink, FailingSource, MemorySink, MemorySource, WriteFailure};
 use std::alloc::Global;
@@ -107,7 +107,7 @@ fn answers_of_several_epochs(rt: HostRuntime) {
 
 #[test]
 fn bad_lines(rt: HostRuntime) {
-    let lines: [&[&str]; 9] = [
+    let lines: [&[&str]; 11] = [
         &["calvin"],
         &["calvin", "parallel"],
         &["calvin", "check"],
@@ -117,6 +117,8 @@ fn bad_lines(rt: HostRuntime) {
         &["calvin", "serial", "script.json"],
         &["calvin", "serial", "serial"],
         &["calvin", "--version"],
+        &["calvin", "serial", "help"],
+        &["calvin", "help", "sing"],
     ];
     for words in lines {
         runs(
