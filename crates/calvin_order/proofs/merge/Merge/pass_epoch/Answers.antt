@@ -9,7 +9,7 @@ pub invariant_of-self : goal.invariant_of-self
 invariant_of-self g c = record {
   some = c.self.invariant.some;
   few = c.self.invariant.few;
-  in_range = subst (λ h. EpochsFit h.batches) (sym c.remove_all.ensures) (fewer_in_range c.self.inside.held.batches c.in-Some.last c.self.inside.partitions c.self.invariant.in_range);
+  in_range = subst (λ h. EpochsFit h.batches) (sym c.remove_all.ensures) (fewer_in_range c.self.inside.held.batches _ _ c.self.invariant.in_range);
   none_kept = c.self.invariant.none_kept;
 }
 
