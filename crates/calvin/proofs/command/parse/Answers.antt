@@ -19,11 +19,12 @@ returns-then-not-asks_serial-clause-serial g c = λ taken. let words = map g.W.A
 pub returns-in_default-kind-clause-serial : goal.returns-in_default-kind-clause-serial
 returns-in_default-kind-clause-serial g c = λ taken.
     let has = c.in-Err.ensures.kinds (ap is_simple_and_free c.in-Ok.ensures ∙ is_free_line) in
-    ⊎_elim (λ memory. c.in_default-kind.not-OutOfMemory (c.kind.ensures ∙ memory)) (λ none. none) (kinds_at _ _ _ c.in-Err.e c.in-Ok.ensures has taken)
+    let bad : ⊥ = ⊎_elim (λ memory. c.in_default-kind.not-OutOfMemory (c.kind.ensures ∙ memory)) (λ none. none)
+    (kinds_at _ _ _ c.in-Err.e c.in-Ok.ensures has taken) in absurd bad
 
 pub returns-in_default-kind-clause-help : goal.returns-in_default-kind-clause-help
 returns-in_default-kind-clause-help g c = λ help.
     let has = c.in-Err.ensures.kinds (ap is_simple_and_free c.in-Ok.ensures ∙ is_free_line) in
-    ⊎_elim (λ memory. c.in_default-kind.not-OutOfMemory (c.kind.ensures ∙ memory))
+    let bad : ⊥ = ⊎_elim (λ memory. c.in_default-kind.not-OutOfMemory (c.kind.ensures ∙ memory))
     (⊎_elim (λ asked. c.in_default-kind.not-DisplayHelp (c.kind.ensures ∙ asked)) (λ none. none))
-    (kinds_at _ _ _ c.in-Err.e c.in-Ok.ensures has help)
+    (kinds_at _ _ _ c.in-Err.e c.in-Ok.ensures has help) in absurd bad
