@@ -38,7 +38,7 @@ get-seen : (rows : Rows ℕ) (ks : List Key) (k : Key) → has ks k ≡ true →
 get-seen rows ks k there = map.get-retain_keys rows (has ks) k (λ x h. has-alike ks k x h) ∙ ap (λ b. cond b (map.get rows k) None) there
 
 same_named : (a : ℕ) (rows : Rows ℕ) → named a (view rows (follow.needs a rows).reads) ≡ named a rows
-same_named a rows = ap (λ (row : Option ℕ). key_of (unwrap_or row 0)) (get-seen rows (follow.needs a rows).reads (key_of a) (has-beside (named a rows) (key_of a)))
+same_named a rows = ap (λ (found : Option ℕ). key_of (unwrap_or found 0)) (get-seen rows (follow.needs a rows).reads (key_of a) (has-beside (named a rows) (key_of a)))
 
 -- two keys of table 0, or one where they are the same
 two_bounded : (i j : ℕ) → IsBounded 2 0 (insert_key (key_of i) (key_of j ∷ []))

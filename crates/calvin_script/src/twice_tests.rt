@@ -57,7 +57,7 @@ fn in_each_way(alloc: Global, members: &str) -> Result<[Read; 3], Fault> {
     ])
 }
 
-/// A put in row 5, number 1 of client 7.
+/// The put of 9 under the key 5, which is the first request of client 7.
 fn put(attempt: u8, reads: KeySet) -> Read {
     Ok(Some(Txn {
         id: id(7, 1),
