@@ -9,7 +9,7 @@ use Rattle.std.specs.FinMap.{get, insert, empty, get-empty, get-insert, get-remo
 use Rattle.calvin_types.specs.declared.place.Slot.{Slot}
 use Rattle.calvin_types.specs.Places.{slot_cmp}
 use Rattle.calvin_order.specs.Merged.{Batch}
-use Rattle.calvin_order.specs.Merging.{Batches, Merging, batch_at, held_by, without_epoch, HoldsAll, IsReady, EpochsFit}
+use Rattle.calvin_order.specs.Merging.{Batches, Merging, batch_at, held_by, without_epoch, IsReady, EpochsFit}
 use Rattle.calvin_order.proofs.Slots.{slot_total, slot_exact}
 use Rattle.calvin_order.proofs.Joining.{joined_none}
 
@@ -42,10 +42,6 @@ module _ {Args : Type 0} where
       go : (o : Option (Batch Args)) → get (without_epoch e g held) slot ≡ o → IsSome o → slot.epoch < 2 ^ 64
       go (Some batch) is h = before slot (ap is_some (held_before held e g slot batch is))
       go None is h = absurd (false≢true h)
-
-  -- no group has a batch past the last epoch
-  pub none_complete : (held : Batches Args) (parts : ℕ) → EpochsFit held → 0 < parts → HoldsAll held (2 ^ 64) parts → ⊥
-  none_complete held parts in_range some all = let low = in_range (record { epoch = 2 ^ 64; group = 0 }) (all 0 some) in omega (arith, low)
 
   pub none_past_last : (held : Batches Args) → EpochsFit held → (slot : Slot) → slot.epoch ≡ 2 ^ 64 → batch_at held slot ≡ []
   none_past_last held in_range slot past = go (get held slot) refl

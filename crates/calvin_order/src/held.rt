@@ -77,14 +77,14 @@ impl<Args: Copy> Held<Args> {
         Ok(())
     }
 
-    /// Gives up the batch for a slot, if there is one.
+    /// Discards the batch for a slot, if there is one.
     fn remove(&mut self, slot: Slot)
         ensures { self.new ≡ record self.old { batches = map.remove self.old.batches slot } }
     {
-        let _given_up = self.batches.remove(&slot);
+        let _discarded = self.batches.remove(&slot);
     }
 
-    /// Gives up the groups' batches for an epoch.
+    /// Discards the groups' batches for an epoch.
     pub fn remove_all(&mut self, epoch: u64, groups: u8)
         ensures { self.new ≡ record self.old { batches = without_epoch epoch groups self.old.batches } }
     {

@@ -107,12 +107,11 @@ impl<Args: Copy> Merge<Args> {
         }
     }
 
-    /// Goes on to the next epoch as `take_epoch` does, for a caller who has read the requests where they stand: none is
-    /// copied. The batches of the epoch that is passed are given up, so what is held doesn't grow with the epochs; who
-    /// brings one of them again has it held again. Refused with `NotComplete` where a group's batch isn't held for that
-    /// epoch, as always once no epoch is left.
+    /// Goes on to the next epoch as `take_epoch` does, for a caller who reads the requests where they stand: none is
+    /// copied. Refused with `NotComplete` where a group's batch isn't held for that epoch, as always once no epoch is
+    /// left. Batches stay held.
     pub fn pass_epoch(&mut self) -> Result<(), Fault>
-        ensures next { OnOk result (self.new ≡ record self.old { next = suc self.old.next; held = without_epoch self.old.next self.old.partitions self.old.held }) }
+        ensures next { OnOk result (self.new ≡ record self.old { next = suc self.old.next }) }
         ensures complete { OnOk result (IsComplete self.old) }
         ensures not_complete { IsErrOf result Fault.NotComplete ↔ ¬ IsComplete self.old }
         ensures err { IsOkUnless result Fault.NotComplete }
@@ -120,12 +119,19 @@ impl<Args: Copy> Merge<Args> {
     {
         match self.next {
             Some(last) if self.held.has_all(last, self.partitions) => {
-                self.held.remove_all(last, self.partitions);
                 self.next = last.checked_add(1);
                 Ok(())
             }
             _ => Err(Fault::NotComplete),
         }
+    }
+
+    /// Discards the batches that are held for an epoch, for a caller who doesn't need them again: else what is held grows
+    /// with the epochs. A batch that comes again for one of their slots is held again.
+    pub fn discard_epoch(&mut self, epoch: u64)
+        ensures { self.new ≡ record self.old { held = without_epoch epoch self.old.partitions self.old.held } }
+    {
+        self.held.remove_all(epoch, self.partitions);
     }
 
     /// The requests of the next epoch: whole batches by ascending group, the n-th request at the place (epoch, n).

@@ -98,7 +98,7 @@ fn requests_where_they_stand(rt: HostRuntime) -> Result<(), Fail> {
 }
 
 #[test]
-fn passed_batches_are_given_up(rt: HostRuntime) -> Result<(), Fail> {
+fn batches_discarded(rt: HostRuntime) -> Result<(), Fail> {
     let alloc = rt.alloc();
     let mut merge = merge_of(alloc, 2)?;
     hold(alloc, &mut merge, 0, 0, &[9])?;
@@ -106,9 +106,14 @@ fn passed_batches_are_given_up(rt: HostRuntime) -> Result<(), Fail> {
     hold(alloc, &mut merge, 0, 2, &[3])?;
     hold(alloc, &mut merge, 1, 0, &[7])?;
     assert_eq!(rt; merge.pass_epoch(), Ok(()));
+    for (epoch, group) in [(0, 0), (0, 1), (0, 2), (1, 0)] {
+        assert_eq!(rt; merge.held(Slot { epoch, group }).is_some(), true);
+    }
+    merge.discard_epoch(0);
     for (epoch, group, there) in [(0, 0, false), (0, 1, false), (0, 2, true), (1, 0, true)] {
         assert_eq!(rt; merge.held(Slot { epoch, group }).is_some(), there);
     }
+    assert_eq!(rt; merge.next(), Some(1));
     assert_eq!(rt; hold(alloc, &mut merge, 0, 1, &[6])?, true);
     assert_eq!(rt; hold(alloc, &mut merge, 0, 1, &[5])?, false);
     Ok(())

@@ -89,9 +89,12 @@ module _ {Args : Type 0} (B : Assignment Args) (parts e : ℕ) where
   pub placed_given : (m : Merging Args) → HoldsOnly B parts e m → IsComplete m → merged parts (held_by m) e ≡ merged parts B e
   placed_given m h complete = sym (λ i. merged (h.as_many i) (held_by m) (h.next_is i)) ∙ merged_given m h complete
 
-  -- also after the epoch is passed and its batches are given up
-  pub passed_given : (m : Merging Args) → HoldsOnly B parts e m → HoldsOnly B parts (suc e) (record m { next = suc m.next; held = without_epoch m.next m.partitions m.held })
-  passed_given m h = record { as_many = h.as_many; next_is = ap suc h.next_is; given = λ q batch got. h.given q batch (held_before m.held m.next m.partitions q batch got) }
+  pub passed_given : (m : Merging Args) → HoldsOnly B parts e m → HoldsOnly B parts (suc e) (record m { next = suc m.next })
+  passed_given m h = record { as_many = h.as_many; next_is = ap suc h.next_is; given = h.given }
+
+  -- also after an epoch's batches are discarded
+  pub discarded_given : (d g : ℕ) (m : Merging Args) → HoldsOnly B parts e m → HoldsOnly B parts e (record m { held = without_epoch d g m.held })
+  discarded_given d g m h = record { as_many = h.as_many; next_is = h.next_is; given = λ q batch got. h.given q batch (held_before m.held d g q batch got) }
 
 -- a merge that holds nothing
 none_got : {Args : Type 0} (q : Slot) (batch : Batch Args) → get {R = slot_cmp} empty q ≡ Some batch → ⊥

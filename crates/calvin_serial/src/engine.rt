@@ -23,7 +23,7 @@ use calvin_script::Script;
 use calvin_types::{Batch, Config, Fault};
 use std::alloc::Global;
 
-/// Runs the requests of the next epoch of a script, and adds a line for each.
+/// Runs the requests of the next epoch of a script, and adds a line for each. Its batches aren't kept.
 fn run_epoch<A: App + Drop>(
     empty: &Batch<A::Args>,
     script: &Script<A::Args>,
@@ -46,7 +46,9 @@ where
 {
     hold_epoch(empty, merge, script, epoch)?;
     push_epoch(store, merge, epoch as u64, script.partitions, text)?;
-    merge.pass_epoch()
+    merge.pass_epoch()?;
+    merge.discard_epoch(epoch as u64);
+    Ok(())
 }
 
 /// The text of the serial run of a script.
