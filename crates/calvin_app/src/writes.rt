@@ -5,7 +5,7 @@ ghost use Rattle.calvin_app.specs.Places.{IsUnwritten, IsWrittenAt};
 ghost use Rattle.calvin_types.specs.Keys.{has, same_key};
 ghost use Rattle.calvin_app.specs.Writing.{keys_of, with_write};
 
-use calvin_types::{Fault, Few, Key};
+use calvin_types::{Fault, Few, Key, MOST_KEYS};
 use std::alloc::AllocError;
 use std::marker::Model;
 
@@ -90,7 +90,7 @@ impl<Row: Copy> Writes<Row> {
         match find_write(&self.pairs, key) {
             Some(i) => self.pairs.set(i, (key, row)),
             None => {
-                if self.pairs.len() == 16 {
+                if self.pairs.len() == MOST_KEYS {
                     return Err(Fault::TooManyKeys);
                 }
                 self.pairs.push((key, row));

@@ -5,6 +5,7 @@ ghost use Rattle.serde_json.specs.View.{view};
 ghost use Rattle.calvin_script.specs.Spelling.{list, then_one};
 ghost use Rattle.calvin_script.specs.Gives.{Gives};
 
+use calvin_types::MOST_REQUESTS;
 use serde_json::Value;
 use std::alloc::{AllocError, AllocFailed, Global};
 
@@ -60,7 +61,8 @@ pub(crate) fn list_of<T: Spelled>(alloc: Global, value: Value) -> Result<Vec<T>,
     let Value::Array(items) = value else {
         return Err(ScriptError::BadScript);
     };
-    let mut found = Vec::with_capacity(alloc, items.len().min(MOST_AT_ONCE))?;
+    // room for a whole batch is had at once; a longer list grows
+    let mut found = Vec::with_capacity(alloc, items.len().min(MOST_REQUESTS))?;
     for item in items {
         if let Err(error) = T::push_json(alloc, item, &mut found) {
             return Err(error);
@@ -68,6 +70,3 @@ pub(crate) fn list_of<T: Spelled>(alloc: Global, value: Value) -> Result<Vec<T>,
     }
     Ok(found)
 }
-
-/// Room is taken at once for at most so many items: as many as a batch may have.
-const MOST_AT_ONCE: usize = 256;

@@ -9,7 +9,7 @@ use crate::contents::{Epoch, GroupBatch, Script};
 use crate::fields::{between, has_only, u8_of};
 use crate::list::{ScriptError, Spelled, list_of};
 use crate::operation::Operation;
-use calvin_types::{Batch, Fault};
+use calvin_types::{Batch, Fault, MOST_PARTITIONS};
 use serde_json::Value;
 use std::alloc::Global;
 
@@ -112,7 +112,7 @@ pub(crate) fn script_of<Op: Operation>(
         return Err(ScriptError::BadScript);
     }
     let partitions = value.get("partitions").ok_or(ScriptError::BadScript)?;
-    let partitions = between(1, 16, partitions).ok_or(ScriptError::BadScript)?;
+    let partitions = between(1, MOST_PARTITIONS, partitions).ok_or(ScriptError::BadScript)?;
     let app = value.get("app").ok_or(ScriptError::BadScript)?;
     let app = app.as_str().ok_or(ScriptError::BadScript)?;
     if app != Op::app_name() {

@@ -8,6 +8,9 @@ use crate::txn::Txn;
 use std::alloc::Global;
 use std::marker::Model;
 
+/// The most requests of a batch.
+pub const MOST_REQUESTS: usize = 256;
+
 /// At most 256 requests in order, which contracts see as a list. None can be changed, added or taken away.
 #[derive(Debug, Drop, PartialEq, Eq)]
 pub struct Batch<Args> {
@@ -35,7 +38,7 @@ impl<Args: Copy> Batch<Args> {
         ensures long { IsErrOf result Fault.TooLong ↔ (256 < length txns.items) }
         ensures faults { IfErr result (λ fault. (fault ≡ Fault.TooLong) ⊎ (fault ≡ Fault.OutOfMemory)) }
     {
-        if txns.len() > 256 {
+        if txns.len() > MOST_REQUESTS {
             return Err(Fault::TooLong);
         }
         let txns = Shared::new(alloc, txns)?;

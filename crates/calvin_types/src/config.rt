@@ -6,6 +6,12 @@ ghost use Rattle.calvin_types.specs.Limits.{IsInRange};
 use crate::fault::Fault;
 use crate::key::Key;
 
+/// The most partitions of a replica.
+pub const MOST_PARTITIONS: u8 = 16;
+
+/// The most replicas.
+pub const MOST_REPLICAS: u8 = 7;
+
 /// The numbers of partitions (1 to 16) and of replicas (1 to 7). Each replica holds every partition, each on a node of
 /// its own (Thomson et al. 2012, section 3).
 #[derive(Clone, Copy, Debug, PartialEq, Eq)]
@@ -23,7 +29,11 @@ impl Config {
         ensures ok { IsOk result ↔ IsInRange partitions replicas }
         ensures err { IsOkUnless result Fault.BadConfig }
     {
-        if partitions == 0 || partitions > 16 || replicas == 0 || replicas > 7 {
+        if partitions == 0
+            || partitions > MOST_PARTITIONS
+            || replicas == 0
+            || replicas > MOST_REPLICAS
+        {
             return Err(Fault::BadConfig);
         }
         Ok(Config {

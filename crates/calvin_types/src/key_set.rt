@@ -11,6 +11,9 @@ use crate::key::Key;
 use crate::key_list::KeyList;
 use std::marker::Model;
 
+/// The most keys of a set.
+pub const MOST_KEYS: usize = 16;
+
 /// A set of at most sixteen keys, which contracts see as the list of its keys, rising. It stands in the value itself,
 /// so copying it allocates nothing.
 #[derive(Clone, Copy, Debug, PartialEq, Eq)]
@@ -102,7 +105,7 @@ impl KeySet {
         ensures at_most { length self.new ≤ 16 }
     {
         if let Err(i) = place_of(&self.keys, key) {
-            if self.keys.len() == 16 {
+            if self.keys.len() == MOST_KEYS {
                 return Err(Fault::TooManyKeys);
             }
             self.keys.insert(i, key);
@@ -118,7 +121,7 @@ impl KeySet {
         ensures at_most { length self.new ≤ 16 }
     {
         match place_of(&self.keys, key) {
-            Err(i) if self.keys.len() < 16 => {
+            Err(i) if self.keys.len() < MOST_KEYS => {
                 self.keys.insert(i, key);
                 true
             }
@@ -215,9 +218,6 @@ impl KeySet {
         Ok(all)
     }
 }
-
-/// The most keys of a set.
-pub const MOST_KEYS: usize = 16;
 
 /// The place of a key, or the place that it would take.
 fn place_of(keys: &KeyList, key: Key) -> Result<usize, usize>

@@ -14,8 +14,8 @@ mod place;
 mod shared;
 mod txn;
 
-pub use batch::Batch;
-pub use config::Config;
+pub use batch::{Batch, MOST_REQUESTS};
+pub use config::{Config, MOST_PARTITIONS, MOST_REPLICAS};
 pub use fault::Fault;
 pub use few::Few;
 pub use key::Key;

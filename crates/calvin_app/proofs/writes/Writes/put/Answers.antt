@@ -11,11 +11,11 @@ invariant_of-self g c = subst (λ ws. IsDistinct same_key (keys_of ws)) (c.in-So
 pub invariant_of-self-in-None : goal.invariant_of-self-in-None
 invariant_of-self-in-None g c = subst (λ ws. IsDistinct same_key (keys_of ws)) (c.in-None.ensures.put_is c.args.row ∙ sym c.push.ensures) (distinct-with_write c.args.key c.args.row c.self.inside.pairs c.self.invariant)
 
-pub returns-then-len-eq16-clause-full : goal.returns-then-len-eq16-clause-full
-returns-then-len-eq16-clause-full g c =
+pub returns-then-len-eq-MOST_KEYS-clause-full : goal.returns-then-len-eq-MOST_KEYS-clause-full
+returns-then-len-eq-MOST_KEYS-clause-full g c =
     (λ _. (omega (arith, ap length c.self.view_is, c.len.ensures.len), ap (λ ws. has (keys_of ws) c.args.key) (sym c.self.view_is) ∙ c.in-None.ensures.missing), λ _. refl)
 
-pub returns-else-len-eq16-clause-full : goal.returns-else-len-eq16-clause-full
-returns-else-len-eq16-clause-full g c =
+pub returns-else-len-eq-MOST_KEYS-clause-full : goal.returns-else-len-eq-MOST_KEYS-clause-full
+returns-else-len-eq-MOST_KEYS-clause-full g c =
     let other : length c.args.self.now ≢ 16 = omega (arith, ap length c.self.view_is, c.len.ensures.len) in
     (λ h. absurd (let e = h in cc), λ h. absurd (other h.0))
