@@ -1,9 +1,8 @@
 -- How a command ends.
 --     status_of fault      the exit status of a fault: 2 where the script is refused, 4 for want of memory, 5 where a device failed
 --     IsStatus status      it is one of 0, 2, 4 and 5
---     HasNoText answer      the script is refused
 --     TellsRefusal left old new      the line of a refusal was added: the script's own, where its bytes are known
-use Rattle.std.specs.Prelude.{◌≡◌, ℕ, List, Option, Result, Ok, Err, IfSome, ◌⊎◌}
+use Rattle.std.specs.Prelude.{◌≡◌, ℕ, List, Option, Err, IfSome, ◌⊎◌}
 use Rattle.std.specs.Io.KnownBytes.{Appends}
 use Rattle.calvin_types.specs.declared.fault.Fault.{Fault}
 use Rattle.calvin_types.specs.declared.fault.Fault.TheVariants.{OutOfMemory, TooManyKeys, Repeated, BadConfig, TooLong, LocksOutOfOrder, NoKeys, NotHeld, RoundsSpent, NotCurrent, Known, NotComplete, NoNode, NoPacket, BadJson, BadScript, ScriptTooLong, ReadFailed, WriteFailed}
@@ -33,10 +32,6 @@ status_of WriteFailed = 5
 
 abbrev pub IsStatus : ℕ → Type 0
 IsStatus status = (status ≡ 0) ⊎ (status ≡ 2) ⊎ (status ≡ 4) ⊎ (status ≡ 5)
-
-abbrev pub HasNoText : Result (List ℕ) Fault → Type 0
-HasNoText (Ok text) = ⊥
-HasNoText (Err fault) = Unit {0}
 
 -- the line of a refusal was added: the script's own, where its bytes are known
 abbrev pub TellsRefusal : Option (List ℕ) → Option (List ℕ) → Option (List ℕ) → Type 0

@@ -1,14 +1,15 @@
 //! The command line, and how a command ends.
 
-ghost use Rattle.std.specs.Prelude.{◌≡◌, ◌≢◌, ◌+◌, ◌↔◌, map, codes, IfOk, IfSome, IsTrue, Some, ◌⊎◌};
+ghost use Rattle.std.specs.Prelude.{◌≡◌, ◌≢◌, ◌+◌, ◌↔◌, map, codes, IfOk, IfSome, IsErr, IsTrue, Some, ◌⊎◌};
 ghost use Rattle.std.specs.Io.KnownBytes.{Appends};
 ghost use Rattle.clap.specs.Words.{app_of, subcommand_name_of};
 ghost use Rattle.calvin.specs.Line.{calvin, IsSerialLine, IsHelpLine, IsBadLine, HasHelpWord, IsPlainSerialLine, NamesSerial, IsRun, IsSerial, IsHelp, IsRefused};
 ghost use Rattle.calvin_edge.specs.Complaints.{complaint};
 ghost use Rattle.calvin_serial.specs.Engine.{serial_text, HasText, HasBeginning};
-ghost use Rattle.calvin.specs.Statuses.{status_of, IsStatus, HasNoText, TellsRefusal};
+ghost use Rattle.calvin.specs.Statuses.{IsStatus, TellsRefusal};
 
-use calvin_edge::{Sink, Source, complaint, write_all};
+use crate::ending::{end_with, refuse_line};
+use calvin_edge::{Sink, Source, write_all};
 use calvin_serial::serial;
 use calvin_types::Fault;
 use clap::error::ErrorKind;
@@ -40,7 +41,7 @@ Statuses:
   2  the command line or the script is refused, and nothing is printed
   4  memory ran out, and nothing is printed
   5  reading or writing failed
-Standard error has one line that says why.
+At 2, 4 and 5 standard error has one line that says why.
 
 `calvin serial --help` shows the form of a script.";
 
@@ -55,17 +56,6 @@ enum Wish {
 enum Refusal {
     BadLine,
     OutOfMemory,
-}
-
-/// The exit status of a fault.
-pub fn status_of(fault: Fault) -> u8
-    ensures { result ≡ status_of fault }
-{
-    match fault {
-        Fault::OutOfMemory => 4,
-        Fault::ReadFailed | Fault::WriteFailed => 5,
-        _ => 2,
-    }
 }
 
 /// The program's command line.
@@ -115,27 +105,6 @@ fn parse<'a, W: AsStr>(alloc: Global, words: &'a [W]) -> Result<Wish, Refusal>
     }
 }
 
-/// Tells a fault, and answers the status.
-pub fn end_with<E: Sink>(fault: Fault, error: &mut E) -> u8
-    ensures status { result ≡ status_of fault }
-    ensures ends { IsStatus result }
-    ensures told { E.failures error.new ≡ E.failures error.old
-        → Appends (E.taken error.old) (E.taken error.new) (complaint fault) }
-{
-    let _ = write_all(error, complaint(fault).as_bytes());
-    status_of(fault)
-}
-
-/// Tells that the line is bad, and answers the status.
-fn refuse_line<E: Sink>(error: &mut E) -> u8
-    ensures status { result ≡ 2 }
-    ensures told { E.failures error.new ≡ E.failures error.old
-        → Appends (E.taken error.old) (E.taken error.new) (codes "calvin: bad line\n") }
-{
-    let _ = write_all(error, "calvin: bad line\n".as_bytes());
-    2
-}
-
 /// Runs the engine `serial`, tells a fault, and answers the status.
 fn run_serial<S: Source, K: Sink, E: Sink>(
     alloc: Global,
@@ -147,7 +116,7 @@ fn run_serial<S: Source, K: Sink, E: Sink>(
     ensures silent { result ≡ 0 → error.new ≡ error.old }
     ensures written { result ≡ 0 → IfSome (S.left input.old) (λ bytes. HasText (serial_text bytes)
         (λ text. Appends (K.taken output.old) (K.taken output.new) text)) }
-    ensures refused { result ≡ 2 → IfSome (S.left input.old) (λ bytes. HasNoText (serial_text bytes)) }
+    ensures refused { result ≡ 2 → IfSome (S.left input.old) (λ bytes. IsErr (serial_text bytes)) }
     ensures failed { result ≡ 5 → (S.failures input.new ≡ S.failures input.old + 1)
         ⊎ (K.failures output.new ≡ K.failures output.old + 1) }
     ensures read_well { result ≢ 5 → S.failures input.new ≡ S.failures input.old }
@@ -206,7 +175,7 @@ pub fn command<W: AsStr, S: Source, K: Sink, E: Sink>(
         (λ text. Appends (K.taken output.old) (K.taken output.new) text)) }
     // It ends with 2 only where the script is refused.
     ensures refused { IsSerialLine (map W.text words.now) → result ≡ 2
-        → IfSome (S.left input.old) (λ bytes. HasNoText (serial_text bytes)) }
+        → IfSome (S.left input.old) (λ bytes. IsErr (serial_text bytes)) }
     // Status 5 says that the input or the output failed, once and not both, and no other status does.
     ensures failed { result ≡ 5 → (S.failures input.new ≡ S.failures input.old + 1)
         ⊎ (K.failures output.new ≡ K.failures output.old + 1) }

@@ -3,24 +3,26 @@
 #![tactic(auto)]
 
 mod command;
+mod ending;
 #[cfg(test)]
 mod tests;
 
 use calvin_edge::{InputSource, OutputSink};
-use calvin_types::Fault;
-use std::env;
 use std::process::ExitCode;
+use std::{env, io};
 
 fn main(rt: HostRuntime) -> ExitCode {
     let mut input = InputSource::new(rt.stdin());
     let mut output = OutputSink::new(rt.stdout());
     let mut error = OutputSink::new(rt.stderr());
-    let status = match env::args(&rt).map(|all| all.collect(rt.alloc())) {
-        Ok(Ok(words)) => {
-            let words: Vec<String> = words;
-            command::command(rt.alloc(), &words, &mut input, &mut output, &mut error)
-        }
-        _ => command::end_with(Fault::OutOfMemory, &mut error),
+    let status = match words_of(&rt) {
+        Ok(words) => command::command(rt.alloc(), &words, &mut input, &mut output, &mut error),
+        Err(why) => ending::refuse_words(why.kind(), &mut error),
     };
     ExitCode::from(status)
+}
+
+/// The words of the command line, the program's name first.
+fn words_of(rt: &HostRuntime) -> io::Result<Vec<String>> {
+    Ok(env::args(rt)?.collect(rt.alloc())?)
 }
