@@ -1,8 +1,7 @@
 //! The rows that a request writes.
-ghost use Rattle.std.specs.Prelude.{◌≡◌, [], ◌∷◌, ◌++◌, ◌<◌, ◌≤◌, ◌↔◌, false, length, slice_get, OnOk, OnErr, IsErrOf, IsOkUnless, MatchOption};
-ghost use Rattle.std.specs.List.{IsDistinct};
+ghost use Rattle.std.specs.Prelude.{◌≡◌, [], ◌∷◌, ◌++◌, ◌<◌, ◌≤◌, ◌↔◌, true, false, length, slice_get, OnOk, OnErr, IsErrOf, IsOkUnless, MatchOption};
 ghost use Rattle.calvin_app.specs.Places.{IsUnwritten, IsWrittenAt};
-ghost use Rattle.calvin_types.specs.Keys.{has, same_key};
+ghost use Rattle.calvin_types.specs.Keys.{has, are_distinct};
 ghost use Rattle.calvin_app.specs.Writing.{keys_of, with_write};
 
 use calvin_types::{Fault, Few, Key, MOST_KEYS};
@@ -16,17 +15,16 @@ pub struct Writes<Row> {
 }
 
 impl<Row> Model for Writes<Row> {
-    ghost use Rattle.std.specs.Prelude.{List};
-    ghost use Rattle.std.specs.List.{IsDistinct};
+    ghost use Rattle.std.specs.Prelude.{◌≡◌, true, List};
     ghost use Rattle.calvin_types.specs.declared.key.Key.{Key};
-    ghost use Rattle.calvin_types.specs.Keys.{same_key};
+    ghost use Rattle.calvin_types.specs.Keys.{are_distinct};
     ghost use Rattle.calvin_app.specs.Writing.{keys_of};
 
     ghost Value = { List (Key × Row) };
 
     ghost view = { λ a. a.pairs };
 
-    ghost invariant = { λ a. IsDistinct same_key (keys_of a.pairs) };
+    ghost invariant = { λ a. are_distinct (keys_of a.pairs) ≡ true };
 
     ghost inverse = { λ ws. record { pairs = ws } };
 }
@@ -66,7 +64,7 @@ impl<Row: Copy> Writes<Row> {
     pub fn len(&self) -> usize
         ensures len { result ≡ length self.now }
         ensures at_most { length self.now ≤ 16 }
-        ensures distinct { IsDistinct same_key (keys_of self.now) }
+        ensures distinct { are_distinct (keys_of self.now) ≡ true }
     {
         self.pairs.len()
     }

@@ -8,12 +8,12 @@
 --     IsComplete m      the next epoch can be taken: each group's batch is held
 --     IsReady m      what is held for the next epoch fits the memory reserved
 --     with_batch slot batch m      m with one more batch, unless the slot has one
---     without_epoch e g held      held without the batches of epoch e of the groups below g
+--     without_epoch e g held      what is held besides the batches of epoch e of the groups below g
 --     EpochsFit held      no batch is held for an epoch past 2^64 - 1
 --     IsMerge parts held given      what is true of every merge: 1 to 16 groups, no epoch past the last is held, no request is kept back
-use Rattle.std.specs.Prelude.{◌≡◌, ℕ, zero, suc, ◌-◌, ◌^◌, ◌<◌, ◌≤◌, [], length, if◌then◌else◌, IsSome}
+use Rattle.std.specs.Prelude.{◌≡◌, ℕ, ◌-◌, ◌^◌, ◌<◌, ◌≤◌, ◌==◌, nat_lt, not, ◌&&◌, [], length, if◌then◌else◌, IsSome}
 use Rattle.std.specs.Option.{unwrap_or}
-use Rattle.std.specs.FinMap.{FinMap, get, contains_key, insert, remove}
+use Rattle.std.specs.FinMap.{FinMap, get, contains_key, insert, retain_keys}
 use Rattle.calvin_types.specs.declared.place.Slot.{Slot}
 use Rattle.calvin_types.specs.Orders.{Order}
 use Rattle.calvin_types.specs.Places.{slot_cmp}
@@ -65,10 +65,9 @@ module _ {Args : Type 0} where
   abbrev pub with_batch : Slot → Batch Args → Merging Args → Merging Args
   with_batch slot batch m = if contains_key m.held slot then m else record m { held = insert m.held slot batch; room = m.room - 1 }
 
-  -- without the batches of an epoch of the groups below g
+  -- what is held besides the batches of an epoch of the groups below g
   abbrev pub without_epoch : ℕ → ℕ → Batches Args → Batches Args
-  without_epoch e zero held = held
-  without_epoch e (suc g) held = remove (without_epoch e g held) (record { epoch = e; group = g })
+  without_epoch e g held = retain_keys held (λ slot. not (slot.epoch == e && nat_lt slot.group g))
 
   -- no batch is held for an epoch past the last
   abbrev pub EpochsFit : Batches Args → Type 0

@@ -85,6 +85,7 @@ impl<Args: Copy> Held<Args> {
     }
 
     /// Discards the groups' batches for an epoch.
+    #[tactic(auto, using(crate::proofs::Ranges::without_none, crate::proofs::Ranges::without_next))]
     pub fn remove_all(&mut self, epoch: u64, groups: u8)
         ensures { self.new ≡ record self.old { batches = without_epoch epoch groups self.old.batches } }
     {

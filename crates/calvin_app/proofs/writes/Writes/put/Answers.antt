@@ -1,15 +1,14 @@
-use Rattle.std.proofs.Common.{◌≢◌, refl, sym, ◌∙◌, ap, subst, length, arith}
-use Rattle.std.specs.List.{IsDistinct}
-use Rattle.calvin_types.specs.Keys.{has, same_key}
+use Rattle.std.proofs.Common.{◌≡◌, true, ◌≢◌, refl, sym, ◌∙◌, ap, subst, length, arith}
+use Rattle.calvin_types.specs.Keys.{has, are_distinct}
 use Rattle.calvin_app.specs.Writing.{keys_of}
 use Rattle.calvin_app.proofs.Distinct.{distinct-with_write}
 use Rattle.calvin_app.proofs.writes.Writes.put.Goals as goal
 
 pub invariant_of-self : goal.invariant_of-self
-invariant_of-self g c = subst (λ ws. IsDistinct same_key (keys_of ws)) (c.in-Some.ensures.put_is c.args.row ∙ sym c.set.ensures) (distinct-with_write c.args.key c.args.row c.self.inside.pairs c.self.invariant)
+invariant_of-self g c = subst (λ ws. are_distinct (keys_of ws) ≡ true) (c.in-Some.ensures.put_is c.args.row ∙ sym c.set.ensures) (distinct-with_write c.args.key c.args.row c.self.inside.pairs c.self.invariant)
 
 pub invariant_of-self-in-None : goal.invariant_of-self-in-None
-invariant_of-self-in-None g c = subst (λ ws. IsDistinct same_key (keys_of ws)) (c.in-None.ensures.put_is c.args.row ∙ sym c.push.ensures) (distinct-with_write c.args.key c.args.row c.self.inside.pairs c.self.invariant)
+invariant_of-self-in-None g c = subst (λ ws. are_distinct (keys_of ws) ≡ true) (c.in-None.ensures.put_is c.args.row ∙ sym c.push.ensures) (distinct-with_write c.args.key c.args.row c.self.inside.pairs c.self.invariant)
 
 pub returns-then-len-eq-MOST_KEYS-clause-full : goal.returns-then-len-eq-MOST_KEYS-clause-full
 returns-then-len-eq-MOST_KEYS-clause-full g c =
