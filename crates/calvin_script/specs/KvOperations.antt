@@ -10,16 +10,14 @@ use Rattle.serde_json.specs.Find.{at, as_str}
 use Rattle.calvin_types.specs.declared.key.Key.{Key}
 use Rattle.calvin_app.specs.declared.kv.KvRequest.{KvRequest}
 use Rattle.calvin_app.specs.declared.kv.KvRequest.TheVariants.{Put, Get, Add}
-use Rattle.calvin_app.specs.Kv.{kv}
+use Rattle.calvin_app.specs.Kv.{kv, key_of}
 use Rattle.calvin_script.specs.Spelling.{◌>>=◌, only_if, below}
 use Rattle.calvin_script.specs.KeyLists.{key_set}
 use Rattle.calvin_script.specs.Grammar.{Grammar}
 
 -- a key of table 0, written as its number there
 abbrev pub row_key : Data → Option Key
-row_key d = do
-  id ← below (2 ^ 64) d
-  Some (record { table = 0; id = id })
+row_key d = option_map key_of (below (2 ^ 64) d)
 
 -- the two numbers that follow the name of an operation, and nothing after them
 unfoldable pub two_numbers : Data → Option (ℕ × ℕ)

@@ -2,7 +2,7 @@
 --     json bytes      the JSON that bytes are, or BadJson
 --     script_from grammar bytes      the script that bytes are, or BadJson, or BadScript
 --     Reads view result read      what is returned is what is read, unless memory runs out
-use Rattle.std.specs.Prelude.{◌≡◌, ℕ, List, if◌then◌else◌, Option, Some, None, Result, Ok, Err}
+use Rattle.std.specs.Prelude.{◌≡◌, ℕ, List, if◌then◌else◌, Result, Ok, Err, ok_or}
 use Rattle.std.specs.Str.{is_utf8}
 use Rattle.serde_json.specs.Data.{Data}
 use Rattle.serde_json.specs.Read.{read}
@@ -11,20 +11,16 @@ use Rattle.calvin_types.specs.declared.fault.Fault.TheVariants.{OutOfMemory, Bad
 use Rattle.calvin_script.specs.Grammar.{Grammar}
 use Rattle.calvin_script.specs.Scripts.{Contents, script}
 
-abbrev pub or_fault : {A : Type 0} → Fault → Option A → Result A Fault
-or_fault fault None = Err fault
-or_fault fault (Some x) = Ok x
-
 -- the JSON that bytes are: text that has a reading
 unfoldable pub json : List ℕ → Result Data Fault
-json bytes = if is_utf8 bytes then or_fault BadJson (read bytes) else Err BadJson
+json bytes = if is_utf8 bytes then ok_or (read bytes) BadJson else Err BadJson
 
 abbrev pub and_then : {A B : Type 0} → Result A Fault → (A → Result B Fault) → Result B Fault
 and_then (Ok x) f = f x
 and_then (Err fault) f = Err fault
 
 unfoldable pub script_from : {Args : Type 0} → Grammar Args → List ℕ → Result (Contents Args) Fault
-script_from grammar bytes = and_then (json bytes) (λ d. or_fault BadScript (script grammar d))
+script_from grammar bytes = and_then (json bytes) (λ d. ok_or (script grammar d) BadScript)
 
 -- a fault is the one that is stated, but for want of memory; no other comes
 abbrev pub IsFault : {Y : Type 0} → Fault → Result Y Fault → Type 0
