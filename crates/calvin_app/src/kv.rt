@@ -137,7 +137,7 @@ fn is_only(key: Key, set: &KeySet) -> bool
 fn is_none(set: &KeySet) -> bool
     ensures { result ≡ same_keys [] set.now }
 {
-    set.len() == 0
+    set.is_empty()
 }
 
 /// Adds for each key its number or none, to values that have none yet. Keys and rows are gone through together.

@@ -64,9 +64,7 @@ pub(crate) fn list_of<T: Spelled>(alloc: Global, value: Value) -> Result<Vec<T>,
     // room for a whole batch is had at once; a longer list grows
     let mut found = Vec::with_capacity(alloc, items.len().min(MOST_REQUESTS))?;
     for item in items {
-        if let Err(error) = T::push_json(alloc, item, &mut found) {
-            return Err(error);
-        }
+        T::push_json(alloc, item, &mut found)?;
     }
     Ok(found)
 }

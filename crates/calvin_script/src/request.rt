@@ -51,7 +51,7 @@ fn read_sets<Op: Operation>(
 fn has_key(sets: &Sets) -> bool
     ensures { result ≡ has_key sets.now }
 {
-    !(sets.reads.len() == 0 && sets.writes.len() == 0)
+    !(sets.reads.is_empty() && sets.writes.is_empty())
 }
 
 /// Reads the operation and the sets of a request that has its name and its attempt, and no key yet.
