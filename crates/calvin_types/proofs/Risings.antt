@@ -89,11 +89,8 @@ last_key q ks i n past upto is so missing =
       insert_is = so ∙ ap (λ xs. take i ks ++ insert_key q xs) (drop_all i ks past) ∙ ap (λ xs. take i ks ++ q ∷ xs) (sym (drop_all i ks past)) ∙ ap (λ (m : ℕ). insert ks m q) (sym all);
     }
 
-by_cases : {P : Type 0} (b : Bool) → (b ≡ true → P) → (b ≡ false → P) → P
-by_cases true p q = p refl
-by_cases false p q = q refl
-
-length-grows : (q : Key) (ks : List Key) → length ks ≤ length (insert_key q ks)
+-- with one key more there are no fewer, and at most one more
+pub length-grows : (q : Key) (ks : List Key) → length ks ≤ length (insert_key q ks)
 length-grows q [] = omega arith
 length-grows q (k ∷ ks) = elim (key_cmp q k) as (λ o. length (k ∷ ks) ≤ length (by_order o (q ∷ k ∷ ks) (k ∷ ks) (k ∷ insert_key q ks))) [
   | Less ↦ omega arith
@@ -101,7 +98,7 @@ length-grows q (k ∷ ks) = elim (key_cmp q k) as (λ o. length (k ∷ ks) ≤ l
   | Greater ↦ omega (arith, length-grows q ks)
 ]
 
-length-grows_by : (q : Key) (ks : List Key) → length (insert_key q ks) ≤ length ks + 1
+pub length-grows_by : (q : Key) (ks : List Key) → length (insert_key q ks) ≤ length ks + 1
 length-grows_by q [] = omega arith
 length-grows_by q (k ∷ ks) = elim (key_cmp q k) as (λ o. length (by_order o (q ∷ k ∷ ks) (k ∷ ks) (k ∷ insert_key q ks)) ≤ length (k ∷ ks) + 1) [
   | Less ↦ omega arith
@@ -133,9 +130,6 @@ fewer qs ks all i q here so number same =
 
 pub one_more : (ks : List Key) (q : Key) → length (insert_key q ks) ≢ length ks → length (insert_key q ks) ≡ length ks + 1
 one_more ks q h = omega (arith, length-grows q ks, length-grows_by q ks)
-
-pub at_most_one_more : (ks : List Key) (q : Key) → length (insert_key q ks) ≤ length ks + 1
-at_most_one_more ks q = length-grows_by q ks
 
 below_filter : (p : Key → Bool) (x : Key) (ks : List Key) → below_all x ks ≡ true → below_all x (filter p ks) ≡ true
 below_filter p x [] h = refl
