@@ -9,7 +9,7 @@ use Rattle.calvin_types.specs.declared.place.Slot.{Slot}
 use Rattle.calvin_types.specs.Places.{slot_cmp}
 use Rattle.calvin_order.specs.Merged.{Batch, Assignment, merged}
 use Rattle.calvin_order.specs.Merging.{Merging, Batches, with_batch, without_epoch, held_by, IsComplete}
-use Rattle.calvin_order.proofs.Slots.{slot_total, slot_exact}
+use Rattle.calvin_types.proofs.SlotMaps.{slot_total, slot_exact}
 use Rattle.calvin_order.proofs.Joining.{merged_same}
 use Rattle.calvin_order.proofs.Ranges.{held_before}
 use Rattle.calvin_serial.specs.Holding.{slot_of, with_groups, HoldsOnly}

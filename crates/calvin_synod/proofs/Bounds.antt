@@ -11,7 +11,8 @@ use Rattle.calvin_synod.specs.declared.tallies.Proposal.{Proposal}
 use Rattle.calvin_synod.specs.Quorums.{majority}
 use Rattle.calvin_synod.specs.Roles.{proposal_cmp, is_enough}
 use Rattle.calvin_synod.specs.States.{FewCounted, FewVoters}
-use Rattle.calvin_synod.proofs.Slots.{same_slot_or_not, get_here, get_other, gone_here, gone_other, same_proposal_or_not, proposal_here, proposal_other, proposal_gone_here, proposal_gone_other}
+use Rattle.calvin_types.proofs.SlotMaps.{same_slot_or_not, get_here, get_other, gone_here, gone_other}
+use Rattle.calvin_synod.proofs.Proposals.{same_proposal_or_not, proposal_here, proposal_other, proposal_gone_here, proposal_gone_other}
 
 some_is : {X : Type 0} {x y : X} → Some x ≡ Some y → x ≡ y
 some_is e = cc

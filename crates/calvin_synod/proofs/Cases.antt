@@ -16,7 +16,8 @@ use Rattle.calvin_synod.specs.Quorums.{IsIn, IsChosen}
 use Rattle.calvin_synod.specs.declared.attempt.Attempt.{Attempt}
 use Rattle.calvin_synod.specs.Roles.{promise_in, vote_in, promise_at, vote_at, bars_prepare, bars_accept, promised, voted, batch_of, counts, if_counts, current, with_report, is_enough, counting, sending, next_ballot, started, refused_at, proposal_cmp, Learning, voters_of, knows, completes, learned}
 use Rattle.calvin_synod.specs.Cases.{slot_of, Replica, Letters, Silent, ToOne, ToAll, Deed, Refuses, Does, prepare, accept, counted, promise, refused, accepted, handle, propose, restart, fresh}
-use Rattle.calvin_synod.proofs.Slots.{same_slot_or_not, get_here, get_other, gone_here, gone_other, voters_here, voters_other, no_voters_here, no_voters_other}
+use Rattle.calvin_types.proofs.SlotMaps.{same_slot_or_not, get_here, get_other, gone_here, gone_other}
+use Rattle.calvin_synod.proofs.Proposals.{voters_here, voters_other, no_voters_here, no_voters_other}
 use Rattle.calvin_synod.proofs.Core.{Said, Reports, Proposes, Votes, Sound, sound_at_first}
 use Rattle.calvin_synod.proofs.Majorities.{distinct_none}
 use Rattle.calvin_synod.proofs.Replicas.{Seat, Learned, Holds, HoldsAt, holds_at, AcceptorMoves, ProposerMoves, LearnerMoves, moves_keep}

@@ -1,6 +1,8 @@
+pub mod ExactMaps
 pub mod Fews
 pub mod HashMaps
 pub mod KeyLists
 pub mod ListTests
 pub mod PlaceOrder
 pub mod Risings
+pub mod SlotMaps

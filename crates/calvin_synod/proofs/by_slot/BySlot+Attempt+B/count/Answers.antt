@@ -1,7 +1,7 @@
 use Rattle.std.proofs.Common.{◌≡◌, ◌++◌, ◌∷◌, [], Some, None, sym, ap, ◌∙◌}
 use Rattle.std.specs.Prelude.{is_some}
 use Rattle.std.specs.FinMap as map
-use Rattle.calvin_synod.proofs.Maps.{got, put}
+use Rattle.calvin_types.proofs.SlotMaps.{got, put}
 use Rattle.calvin_synod.proofs.by_slot.BySlot+Attempt+B.count.Goals as goal
 
 none_not_some : {X : Type 0} {x : X} → None ≡ Some x → ⊥
