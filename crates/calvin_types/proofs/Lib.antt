@@ -6,3 +6,4 @@ pub mod ListTests
 pub mod PlaceOrder
 pub mod Risings
 pub mod SlotMaps
+pub mod Tests
