@@ -1,10 +1,8 @@
 -- A view of one more key.
-use Rattle.std.proofs.Common.{◌≡◌, ℕ, ◌+◌, ◌≤◌, true, false, cond, ◌||◌, List, [], ◌∷◌, ◌++◌, take, Option, Some, None, slice_get, refl, sym, ◌∙◌, ap, subst, arith}
+use Rattle.std.proofs.Common.{◌≡◌, ◌+◌, ◌≤◌, true, false, cond, ◌||◌, List, [], ◌∷◌, ◌++◌, Option, Some, None, refl, sym, ◌∙◌, ap, subst, arith}
 use Rattle.std.specs.FinMap as map
 use Rattle.std.specs.Cmp.{Equal-is}
 use Rattle.std.proofs.Math.Bool.{or-true, or-false}
-use Rattle.std.proofs.lemmas.List.{take_more}
-use Rattle.std.proofs.lemmas.Option.{slice_get_within, get_or_from_slice_get}
 use Rattle.calvin_types.specs.declared.key.Key.{Key}
 use Rattle.calvin_types.specs.Keys.{key_cmp, has, same_key}
 use Rattle.calvin_types.specs.KeyOrder.{key_cmp_exact, key_cmp_total, has-alike, has-push}
@@ -42,10 +40,6 @@ module _ {Row : Type 0} (rows : Rows Row) (ks : List Key) (k : Key) where
 
 pub view-none : {Row : Type 0} (rows : Rows Row) → map.empty ≡ view rows []
 view-none rows = map.same_map key_cmp_total key_cmp_exact _ _ (λ q. map.get-empty key_cmp q ∙ sym (get-view rows [] q))
-
--- the keys before a place, and the one there
-pub take-at : (ks : List Key) (i : ℕ) (k : Key) → slice_get ks i ≡ Some k → take (i + 1) ks ≡ take i ks ++ k ∷ []
-take-at ks i k is = take_more ks i k (slice_get_within ks i k is) ∙ ap (λ x. take i ks ++ x ∷ []) (get_or_from_slice_get ks i k k is)
 
 pub len-insert-le : {Row : Type 0} (m : Rows Row) (k : Key) (r : Row) → map.len (map.insert m k r) ≤ map.len m + 1
 len-insert-le m k r = subst (λ n. n ≤ map.len m + 1) (sym (map.len-insert key_cmp_total m k r)) (elim (map.contains_key m k) as (λ b. cond b (map.len m) (map.len m + 1) ≤ map.len m + 1) [ true ↦ omega arith | false ↦ omega arith ])

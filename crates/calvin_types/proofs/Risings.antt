@@ -2,8 +2,8 @@
 use Rattle.std.proofs.Common.{◌≡◌, ◌≢◌, ℕ, ◌+◌, ◌<◌, ◌≤◌, Bool, true, false, cond, ◌||◌, List, [], ◌∷◌, ◌++◌, length, take, drop, Some, slice_get, refl, sym, ◌∙◌, ap, append_assoc, arith}
 use Rattle.std.specs.List.{filter, insert}
 use Rattle.std.proofs.lemmas.Bool.{false≢true}
-use Rattle.std.proofs.lemmas.List.{take_more, drop_all, take-append-drop, length-drop, append-nil}
-use Rattle.std.proofs.lemmas.Option.{slice_get_within, get_or_from_slice_get}
+use Rattle.std.proofs.lemmas.List.{drop_all, take-append-drop, length-drop, append-nil}
+use Rattle.std.proofs.lemmas.Option.{slice_get_within}
 use Rattle.std.specs.declared.cmp.Ordering.{Ordering}
 use Rattle.std.specs.declared.cmp.Ordering.TheVariants.{Less, Equal, Greater}
 use Rattle.std.specs.Ordering.{is_lt, is_eq, ordering_reverse}
@@ -12,7 +12,7 @@ use Rattle.calvin_types.specs.Exact.{first, second, both}
 use Rattle.calvin_types.specs.Keys.{key_cmp, has, below_all, rises, by_order, insert_key, insert_all}
 use Rattle.calvin_types.specs.KeyOrder.{key_cmp_total}
 use Rattle.calvin_types.specs.KeyPlaces.{IsAt, IsMissingAt}
-use Rattle.calvin_types.proofs.Fews.{drop_at}
+use Rattle.calvin_types.proofs.Fews.{drop_at, take_at}
 
 pub less : (o : Ordering) → is_lt o ≡ true → o ≡ Less
 less Less h = refl
@@ -72,7 +72,7 @@ module _ (q : Key) (ks : List Key) (i : ℕ) (k : Key) (here : slice_get ks i �
   }
 
   pub next_insert : key_cmp q k ≡ Greater → insert_key q ks ≡ take (i + 1) ks ++ insert_key q (drop (i + 1) ks)
-  next_insert is = insert_at Greater is ∙ sym (append_assoc (take i ks) (k ∷ []) (insert_key q (drop (i + 1) ks))) ∙ ap (λ xs. xs ++ insert_key q (drop (i + 1) ks)) (sym (take_more ks i k (slice_get_within ks i k here) ∙ ap (λ x. take i ks ++ x ∷ []) (get_or_from_slice_get ks i k k here)))
+  next_insert is = insert_at Greater is ∙ sym (append_assoc (take i ks) (k ∷ []) (insert_key q (drop (i + 1) ks))) ∙ ap (λ xs. xs ++ insert_key q (drop (i + 1) ks)) (sym (take_at ks i k here))
 
   pub next_has : key_cmp q k ≡ Greater → has ks q ≡ has (drop (i + 1) ks) q
   next_has is = has_at Greater is
