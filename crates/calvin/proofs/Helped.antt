@@ -4,6 +4,7 @@ use Rattle.std.specs.List.{Contains, find, list_any}
 use Rattle.std.specs.Option.{option_map_or}
 use Rattle.std.specs.Prelude.{slice_get}
 use Rattle.std.specs.Str.{bytes_eq, chars}
+use Rattle.std.proofs.lemmas.Bool.{or_parts}
 use Rattle.std.proofs.lemmas.Map.Views.{Contains-from_any}
 use Rattle.std.proofs.lemmas.Slice.Eq.{bytes_eq-Decides}
 use Rattle.clap.specs.Lexer.{long_of, short_of}
@@ -227,18 +228,11 @@ entered_alone stop = where_some stop _ (λ p. where_some (find (λ s. answers_to
     level_alone s [] nothing_held p.1 false [] (walk_alone s [] (λ word. Unit {0}) (λ is_trailing waiting word h right. leaf_word_alone s is_trailing waiting word h)
     p.1 (walk_from nothing_held) (any_words p.1)) none))
 
-first_false : (a b : Bool) → (a || b) ≡ false → a ≡ false
-first_false true b e = absurd (true≢false e)
-first_false false b e = refl
-
-second_false : (a b : Bool) → (a || b) ≡ false → b ≡ false
-second_false true b e = absurd (true≢false e)
-second_false false b e = e
-
 no_help : (words : List Text) → list_any (bytes_eq (codes "help")) words ≡ false → Each (λ word. bytes_eq (codes "help") word ≡ false) words
 no_help [] e = tt
 no_help (word ∷ rest) e =
-    (first_false (bytes_eq (codes "help") word) _ e, no_help rest (second_false (bytes_eq (codes "help") word) _ e))
+    let parts = or_parts (bytes_eq (codes "help") word) _ e in
+    (parts.0, no_help rest parts.1)
 
 lacks_help : (words : List Text) → ¬ Contains words (codes "help") → list_any (bytes_eq (codes "help")) words ≡ false
 lacks_help words lacks = go (list_any (bytes_eq (codes "help")) words) refl

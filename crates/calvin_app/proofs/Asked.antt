@@ -2,6 +2,7 @@
 use Rattle.std.proofs.Common.{◌≡◌, ◌≤◌, ℕ, zero, suc, ◌<◌, Bool, true, false, ◌&&◌, List, [], ◌∷◌, length, Some, slice_get, refl, sym, ap, ◌∙◌, cond, take, rules, arith}
 use Rattle.std.specs.Cmp.Rules.{comparing}
 use Rattle.std.specs.declared.cmp.Ordering.TheVariants.{Less}
+use Rattle.std.proofs.Math.Bool.{and-true}
 use Rattle.std.proofs.lemmas.Bool.{false≢true}
 use Rattle.std.specs.Prelude.{◌==◌}
 use Rattle.std.specs.List.{filter, list_all}
@@ -33,14 +34,10 @@ last_of_two true false c h is = absurd (false≢true (h refl))
 last_of_two false true c h is = is
 last_of_two false false c h is = refl
 
-alone : (a : Bool) → a ≡ (a && true)
-alone true = refl
-alone false = refl
-
 -- the last of rising keys tells whether all are of table 0
 pub all_by_last : (ks : List Key) (i : ℕ) (k : Key) → rises ks ≡ true → slice_get ks i ≡ Some k → suc i ≡ length ks → (k.table == 0) ≡ list_all (λ k. k.table == 0) ks
 all_by_last [] i k h here end = absurd (cc)
-all_by_last (x ∷ []) zero k h here end = let first_is : k ≡ x = cc in ap (λ (q : Key). q.table == 0) first_is ∙ alone (x.table == 0)
+all_by_last (x ∷ []) zero k h here end = let first_is : k ≡ x = cc in ap (λ (q : Key). q.table == 0) first_is ∙ sym (and-true (x.table == 0))
 all_by_last (x ∷ y ∷ ks) zero k h here end = absurd (omega (arith, end))
 all_by_last (x ∷ ks) (suc i) k h here end =
     last_of_two (k.table == 0) (x.table == 0) (list_all (λ k. k.table == 0) ks) (below_zero x k (below_at x ks i k (first _ _ h) here)) (all_by_last ks i k (second _ _ h) here (omega (arith, end)))

@@ -11,10 +11,10 @@ use Rattle.calvin_types.specs.KeyOrder.{key_cmp_exact}
 use Rattle.std.specs.FinMap.Entries.{by_order}
 use Rattle.std.specs.List.{insert}
 use Rattle.std.proofs.Math.ListN.{set}
-use Rattle.std.proofs.lemmas.List.{take_more, drop_all}
-use Rattle.std.proofs.lemmas.Option.{slice_get_within, get_or_from_slice_get}
+use Rattle.std.proofs.lemmas.List.{drop_all}
+use Rattle.std.proofs.lemmas.Option.{slice_get_within}
 use Rattle.calvin_app.specs.Places.{IsAt, IsMissingAt}
-use Rattle.calvin_types.proofs.Fews.{drop_at}
+use Rattle.calvin_types.proofs.Fews.{drop_at, take_at}
 use Rattle.calvin_types.specs.SameKeys.{equal_keys}
 
 pub equal_keys-is : (a b : Key) → equal_keys a b ≡ eq_by_cmp key_cmp a b
@@ -45,7 +45,7 @@ module _ {Row : Type 0} (k : Key) (es : List (Key × Row)) (i : ℕ) (e : Key ×
   }
 
   pub next_place : key_cmp k e.0 ≡ Greater → (row : Row) → map.put key_cmp k row es ≡ take (i + 1) es ++ map.put key_cmp k row (drop (i + 1) es)
-  next_place is r = put_at r Greater is ∙ sym (append_assoc (take i es) (e ∷ []) (map.put key_cmp k r (drop (i + 1) es))) ∙ ap (λ xs. xs ++ map.put key_cmp k r (drop (i + 1) es)) (sym (take_more es i e within ∙ ap (λ x. take i es ++ x ∷ []) (get_or_from_slice_get es i e e here)))
+  next_place is r = put_at r Greater is ∙ sym (append_assoc (take i es) (e ∷ []) (map.put key_cmp k r (drop (i + 1) es))) ∙ ap (λ xs. xs ++ map.put key_cmp k r (drop (i + 1) es)) (sym (take_at es i e here))
 
 pub last_place : {Row : Type 0} (k : Key) (es : List (Key × Row)) (i n : ℕ) → length es ≤ i → i ≤ n → n ≡ length es → ((row : Row) → map.put key_cmp k row es ≡ take i es ++ map.put key_cmp k row (drop i es)) → IsMissingAt k es n
 last_place k es i n past upto is so =

@@ -1,8 +1,7 @@
 -- A run of requests, one more at its end.
 use Rattle.std.proofs.Common.{◌≡◌, ℕ, ◌+◌, List, [], ◌∷◌, ◌++◌, take, Some, slice_get, refl, sym, ap, ◌∙◌}
-use Rattle.std.proofs.lemmas.List.{take_more}
-use Rattle.std.proofs.lemmas.Option.{slice_get_within, get_or_from_slice_get}
 use Rattle.calvin_types.specs.declared.txn.Txn.{Txn}
+use Rattle.calvin_types.proofs.Fews.{take_at}
 use Rattle.calvin_app.specs.Rows.{Rows}
 use Rattle.calvin_app.specs.Meaning.{Meaning}
 use Rattle.calvin_app.specs.Serial.{serial, after_one}
@@ -15,4 +14,4 @@ module _ {Args Row Reply : Type 0} (m : Meaning Args Row Reply) where
   pub serial-take : (ts : List (Txn Args)) (i : ℕ) (t : Txn Args) (rows now : Rows Row) → slice_get ts i ≡ Some t → now ≡ (serial m (take i ts) rows).0 → after_one m t now ≡ (serial m (take (i + 1) ts) rows).0
   serial-take ts i t rows now here so =
       ap (after_one m t) so ∙ sym (serial-push (take i ts) t rows)
-      ∙ ap (λ xs. (serial m xs rows).0) (sym (take_more ts i t (slice_get_within ts i t here) ∙ ap (λ x. take i ts ++ x ∷ []) (get_or_from_slice_get ts i t t here)))
+      ∙ ap (λ xs. (serial m xs rows).0) (sym (take_at ts i t here))

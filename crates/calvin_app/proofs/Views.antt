@@ -1,9 +1,8 @@
 -- A view of one more key.
-use Rattle.std.proofs.Common.{◌≡◌, ℕ, ◌+◌, ◌≤◌, Bool, true, false, cond, ◌||◌, List, [], ◌∷◌, ◌++◌, take, Option, Some, None, slice_get, refl, sym, ◌∙◌, ap, subst, arith}
+use Rattle.std.proofs.Common.{◌≡◌, ◌+◌, ◌≤◌, true, false, cond, ◌||◌, List, [], ◌∷◌, ◌++◌, Option, Some, None, refl, sym, ◌∙◌, ap, subst, arith}
 use Rattle.std.specs.FinMap as map
 use Rattle.std.specs.Cmp.{Equal-is}
-use Rattle.std.proofs.lemmas.List.{take_more}
-use Rattle.std.proofs.lemmas.Option.{slice_get_within, get_or_from_slice_get}
+use Rattle.std.proofs.Math.Bool.{or-true, or-false}
 use Rattle.calvin_types.specs.declared.key.Key.{Key}
 use Rattle.calvin_types.specs.Keys.{key_cmp, has, same_key}
 use Rattle.calvin_types.specs.KeyOrder.{key_cmp_exact, key_cmp_total, has-alike, has-push}
@@ -12,14 +11,6 @@ use Rattle.calvin_app.specs.Rows.{view}
 
 pub get-view : {Row : Type 0} (rows : Rows Row) (ks : List Key) (q : Key) → map.get (view rows ks) q ≡ cond (has ks q) (map.get rows q) None
 get-view rows ks q = map.get-retain_keys rows (has ks) q (λ x h. has-alike ks q x h)
-
-or_true : (a : Bool) → (a || true) ≡ true
-or_true true = refl
-or_true false = refl
-
-or_false : (a : Bool) → (a || false) ≡ a
-or_false true = refl
-or_false false = refl
 
 module _ {Row : Type 0} (rows : Rows Row) (ks : List Key) (k : Key) where
   -- what the larger view has at a key
@@ -33,8 +24,8 @@ module _ {Row : Type 0} (rows : Rows Row) (ks : List Key) (k : Key) where
   view-push_row r there = map.same_map key_cmp_total key_cmp_exact _ _ (λ q.
       map.get-insert key_cmp_total (view rows ks) k r q ∙ ap (cond (same_key q k) (Some r)) (get-view rows ks q)
       ∙ elim (same_key q k) as (λ b. same_key q k ≡ b → cond b (Some r) (cond (has ks q) (map.get rows q) None) ≡ cond (has ks q || b) (map.get rows q) None) [
-        | true ↦ λ is. sym (ap (λ b. cond b (map.get rows q) None) (or_true (has ks q)) ∙ at_key q is ∙ there)
-        | false ↦ λ is. ap (λ b. cond b (map.get rows q) None) (sym (or_false (has ks q)))
+        | true ↦ λ is. sym (ap (λ b. cond b (map.get rows q) None) (or-true (has ks q)) ∙ at_key q is ∙ there)
+        | false ↦ λ is. ap (λ b. cond b (map.get rows q) None) (sym (or-false (has ks q)))
       ] refl
       ∙ sym (get-more q))
 
@@ -42,17 +33,13 @@ module _ {Row : Type 0} (rows : Rows Row) (ks : List Key) (k : Key) where
   view-push_none lacks = map.same_map key_cmp_total key_cmp_exact _ _ (λ q.
       get-view rows ks q
       ∙ elim (same_key q k) as (λ b. same_key q k ≡ b → cond (has ks q) (map.get rows q) None ≡ cond (has ks q || b) (map.get rows q) None) [
-        | true ↦ λ is. ap (λ (o : Option Row). cond (has ks q) o None) (at_key q is ∙ lacks) ∙ elim (has ks q) as (λ b. ◌≡◌ {A = Option Row} (cond b None None) None) [ true ↦ refl | false ↦ refl ] ∙ sym (ap (λ b. cond b (map.get rows q) None) (or_true (has ks q)) ∙ at_key q is ∙ lacks)
-        | false ↦ λ is. ap (λ b. cond b (map.get rows q) None) (sym (or_false (has ks q)))
+        | true ↦ λ is. ap (λ (o : Option Row). cond (has ks q) o None) (at_key q is ∙ lacks) ∙ elim (has ks q) as (λ b. ◌≡◌ {A = Option Row} (cond b None None) None) [ true ↦ refl | false ↦ refl ] ∙ sym (ap (λ b. cond b (map.get rows q) None) (or-true (has ks q)) ∙ at_key q is ∙ lacks)
+        | false ↦ λ is. ap (λ b. cond b (map.get rows q) None) (sym (or-false (has ks q)))
       ] refl
       ∙ sym (get-more q))
 
 pub view-none : {Row : Type 0} (rows : Rows Row) → map.empty ≡ view rows []
 view-none rows = map.same_map key_cmp_total key_cmp_exact _ _ (λ q. map.get-empty key_cmp q ∙ sym (get-view rows [] q))
-
--- the keys before a place, and the one there
-pub take-at : (ks : List Key) (i : ℕ) (k : Key) → slice_get ks i ≡ Some k → take (i + 1) ks ≡ take i ks ++ k ∷ []
-take-at ks i k is = take_more ks i k (slice_get_within ks i k is) ∙ ap (λ x. take i ks ++ x ∷ []) (get_or_from_slice_get ks i k k is)
 
 pub len-insert-le : {Row : Type 0} (m : Rows Row) (k : Key) (r : Row) → map.len (map.insert m k r) ≤ map.len m + 1
 len-insert-le m k r = subst (λ n. n ≤ map.len m + 1) (sym (map.len-insert key_cmp_total m k r)) (elim (map.contains_key m k) as (λ b. cond b (map.len m) (map.len m + 1) ≤ map.len m + 1) [ true ↦ omega arith | false ↦ omega arith ])

@@ -1,10 +1,10 @@
 -- Where a key stands among writes.
 use Rattle.std.proofs.Common.{◌≡◌, ℕ, ◌+◌, ◌<◌, ◌≤◌, Bool, true, false, cond, ◌||◌, List, [], ◌∷◌, ◌++◌, length, take, drop, Some, slice_get, sym, ◌∙◌, ap, append_assoc}
-use Rattle.std.proofs.lemmas.List.{take_more, take_all, drop_all}
-use Rattle.std.proofs.lemmas.Option.{slice_get_within, get_or_from_slice_get}
+use Rattle.std.proofs.lemmas.List.{take_all, drop_all}
+use Rattle.std.proofs.lemmas.Option.{slice_get_within}
 use Rattle.calvin_types.specs.declared.key.Key.{Key}
 use Rattle.calvin_types.specs.Keys.{has}
-use Rattle.calvin_types.proofs.Fews.{drop_at}
+use Rattle.calvin_types.proofs.Fews.{drop_at, take_at}
 use Rattle.calvin_types.specs.SameKeys.{equal_keys}
 use Rattle.calvin_app.specs.Writing.{with_write, keys_of}
 use Rattle.calvin_app.specs.Places.{IsUnwritten, IsWrittenAt}
@@ -29,7 +29,7 @@ module _ {Row : Type 0} (k : Key) (ws : List (Key × Row)) (i : ℕ) (w : Key ×
   }
 
   pub write_later : false ≡ equal_keys k w.0 → (row : Row) → with_write k row ws ≡ take (i + 1) ws ++ with_write k row (drop (i + 1) ws)
-  write_later is r = write_at r false is ∙ sym (append_assoc (take i ws) (w ∷ []) (with_write k r (drop (i + 1) ws))) ∙ ap (λ xs. xs ++ with_write k r (drop (i + 1) ws)) (sym (take_more ws i w within ∙ ap (λ x. take i ws ++ x ∷ []) (get_or_from_slice_get ws i w w here)))
+  write_later is r = write_at r false is ∙ sym (append_assoc (take i ws) (w ∷ []) (with_write k r (drop (i + 1) ws))) ∙ ap (λ xs. xs ++ with_write k r (drop (i + 1) ws)) (sym (take_at ws i w here))
 
   pub missing_later : false ≡ equal_keys k w.0 → has (keys_of ws) k ≡ has (keys_of (drop (i + 1) ws)) k
   missing_later is = missing_at false is

@@ -11,6 +11,10 @@ use Rattle.calvin_synod.proofs.Cases.{Tells, Says}
 use Rattle.calvin_group.specs.declared.packet.Packet.{Packet}
 use Rattle.calvin_group.specs.Groups.{packets_of}
 
+-- nothing is in an empty list
+pub in_none : {X : Type 0} (x : X) → Contains [] x → ⊥
+in_none x c = let k : c.0 < 0 = c.1 in omega arith
+
 module _ {B : Type 0} where
   -- what packets say of a slot
   abbrev pub sent_in : List (Packet B) → Slot → Said B → Type 0
@@ -33,13 +37,10 @@ module _ {B : Type 0} where
   sent_cases packets more slot (Proposes b x) s = ⊎_elim (λ k. inl (s.0, s.1, k)) (λ k. inr (s.0, s.1, k)) (Contains-append_cases packets more _ s.2)
   sent_cases packets more slot (Votes a b x) s = ⊎_elim (λ k. inl (s.0, k)) (λ k. inr (s.0, k)) (Contains-append_cases packets more _ s.1)
 
-  no_packet : (p : Packet B) → Contains [] p → ⊥
-  no_packet p c = let k : c.0 < 0 = c.1 in omega arith
-
   pub nothing_sent : (slot : Slot) (x : Said B) → sent_in [] slot x → ⊥
-  nothing_sent slot (Reports a b r) s = no_packet _ s.1
-  nothing_sent slot (Proposes b y) s = no_packet _ s.2
-  nothing_sent slot (Votes a b y) s = no_packet _ s.1
+  nothing_sent slot (Reports a b r) s = in_none _ s.1
+  nothing_sent slot (Proposes b y) s = in_none _ s.2
+  nothing_sent slot (Votes a b y) s = in_none _ s.1
 
   -- packets of one message from one replica
   abbrev Alike : ℕ → Message B → List (Packet B) → Type 0

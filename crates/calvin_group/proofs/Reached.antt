@@ -11,7 +11,7 @@ use Rattle.calvin_group.specs.Groups.{GroupState, opening, Step, Leads, IsReache
 use Rattle.calvin_group.specs.declared.packet.Packet.{Packet}
 use Rattle.calvin_group.specs.Deeds.{MemberState, IsGroup, group_of}
 use Rattle.calvin_group.proofs.Events.{Kept, opening_kept}
-use Rattle.calvin_group.proofs.Runs.{leads_on, leads_keeps, kept_one, one_chosen, gave_is_chosen, chosen_stays}
+use Rattle.calvin_group.proofs.Runs.{leads_on, leads_keeps, kept_one, one_chosen, gave_is_chosen}
 
 module _ {B : Type 0} where
   pub reached_on : (size : ℕ) (w : GroupState B) → IsReached size w → (event : GroupEvent B) (outcome : Outcome B) (after : GroupState B) → Step w event outcome after → IsReached size after
@@ -60,9 +60,6 @@ module _ {B : Type 0} where
   pub run_gives : (size : ℕ) (w : GroupState B) → IsReached size w → (initial : GroupState B) → w ≡ initial → (events : List (GroupEvent B)) (i : ℕ) → length events ≤ i → (outcomes : List (Outcome B)) (after : GroupState B) → Leads initial (take i events) outcomes after
       → (slot : Slot) (batch : B) → Contains outcomes (Gave slot batch) → Chosen after slot batch
   run_gives size w reached initial view events i past outcomes after led slot batch c = reached_gives size initial (subst (λ v. IsReached size v) view reached) events outcomes after (led_all initial events i past outcomes after led) slot batch c
-
-  pub run_stays : (initial : GroupState B) (events : List (GroupEvent B)) (outcomes : List (Outcome B)) (after : GroupState B) → Leads initial events outcomes after → (slot : Slot) (batch : B) → Chosen initial slot batch → Chosen after slot batch
-  run_stays initial events outcomes after led slot batch chosen = chosen_stays initial events outcomes after led slot batch chosen
 
   pub run_one : (size : ℕ) (w : GroupState B) → IsReached size w → (initial : GroupState B) → w ≡ initial → (events : List (GroupEvent B)) (outcomes : List (Outcome B)) (after : GroupState B) → Leads initial events outcomes after
       → (slot : Slot) (x y : B) → Chosen after slot x → Chosen after slot y → x ≡ y

@@ -16,7 +16,8 @@ use Rattle.calvin_synod.specs.declared.message.Message.TheVariants.{Prepare, Pro
 use Rattle.calvin_synod.specs.Quorums.{IsIn, IsMajority, majority}
 use Rattle.calvin_synod.specs.Roles.{promise_in, vote_in, bars_prepare, bars_accept, if_counts, counting, sending, voted, proposal_cmp, voters_of}
 use Rattle.calvin_synod.specs.Cases.{Replica, Silent, ToOne, ToAll, Deed, Refuses, Does, prepare, accept, promise, handle, propose, fresh}
-use Rattle.calvin_synod.proofs.Slots.{get_here, voters_here}
+use Rattle.calvin_types.proofs.SlotMaps.{get_here}
+use Rattle.calvin_synod.proofs.Proposals.{voters_here}
 use Rattle.calvin_synod.proofs.Majorities.{is_in_cases, distinct_one_more, distinct_none}
 use Rattle.calvin_group.specs.declared.packet.Packet.{Packet}
 use Rattle.calvin_group.specs.declared.event.GroupEvent.TheVariants.{Propose, Deliver}

@@ -1,5 +1,5 @@
 -- What holds after every list of events.
-use Rattle.std.proofs.Common.{◌≡◌, ℕ, ◌<◌, List, [], ◌∷◌, ◌++◌, length, ◌⊎◌, inl, inr, ⊎_elim, refl, sym, ap, ◌∙◌, subst, arith, Option, Some, None}
+use Rattle.std.proofs.Common.{◌≡◌, ℕ, List, [], ◌∷◌, ◌++◌, length, ◌⊎◌, inl, inr, ⊎_elim, refl, sym, ap, ◌∙◌, subst, Option, Some, None}
 use Rattle.std.specs.Prelude.{slice_get}
 use Rattle.std.specs.List.{Contains}
 use Rattle.std.proofs.lemmas.List.{length-set}
@@ -16,6 +16,7 @@ use Rattle.calvin_group.specs.declared.event.Outcome.{Outcome}
 use Rattle.calvin_group.specs.declared.event.Outcome.TheVariants.{Gave, Refused}
 use Rattle.calvin_group.specs.Groups.{GroupState, opening, packets_of, carry_out, at_replica, deliver, happens, TakesEffect, Step, Leads, Chosen}
 use Rattle.calvin_group.proofs.Events.{Kept, step_keeps, step_gives, opening_kept}
+use Rattle.calvin_group.proofs.Packets.{in_none}
 
 pub leads_keeps : {B : Type 0} (w : GroupState B) (events : List (GroupEvent B)) (outcomes : List (Outcome B)) (after : GroupState B) → Kept w → Leads w events outcomes after → Kept after
 leads_keeps w [] [] after kept run = subst Kept (sym run) kept
@@ -91,9 +92,6 @@ module _ {B : Type 0} where
   -- What is chosen stays chosen.
   pub chosen_stays : (w : GroupState B) (events : List (GroupEvent B)) (outcomes : List (Outcome B)) (after : GroupState B) → Leads w events outcomes after → (slot : Slot) (batch : B) → Chosen w slot batch → Chosen after slot batch
   chosen_stays w events outcomes after run slot batch chosen = extends_chosen (leads_extends w events outcomes after run) slot batch chosen
-
-  in_none : (x : Outcome B) → Contains [] x → ⊥
-  in_none x c = let k : c.0 < 0 = c.1 in omega arith
 
   first_or_later : (y : Outcome B) (xs : List (Outcome B)) (x : Outcome B) → Contains (y ∷ xs) x → (y ≡ x) ⊎ Contains xs x
   first_or_later y xs x c = ⊎_elim (λ (d : Contains (y ∷ []) x). inl (⊎_elim (λ (k : Contains [] x). absurd (in_none x k)) (λ (e : y ≡ x). e) (Contains-push_cases [] y x d))) (λ (d : Contains xs x). inr d) (Contains-append_cases (y ∷ []) xs x c)

@@ -36,22 +36,19 @@ module _ (es : List (Place × Sets)) (rising : T (is_sorted place_cmp es)) (afte
         let less = before_index es j k e f rising at there before in absurd (omega (arith, less, upon)),
   )
 
+  passed : (j : ℕ) (e f : Place × Sets) → slice_get es j ≡ Some e → (IsPast after e.0 → IsFree es j → ⊥) → slice_get es j ≡ Some f → IsPast after f.0 → IsReady (from_entries es) f.0 → ⊥
+  passed j e f at neither there past ready = neither (subst (λ (y : Place × Sets). IsPast after y.0) (sym (same_Some e f (sym at ∙ there))) past) (ready_free es rising j f there ready)
+
   -- and one that isn't changes nothing
   pub first_passed : (j n : ℕ) (e : Place × Sets) (first : Option Place) → n ≤ j + 1 → slice_get es j ≡ Some e → (IsPast after e.0 → IsFree es j → ⊥) → IsFirstFrom after es n first → IsFirstFrom after es j first
   first_passed j n e None next at neither none =
       let P : ℕ → Type 0 = λ k. (f : Place × Sets) → slice_get es k ≡ Some f → IsPast after f.0 → ¬ IsReady (from_entries es) f.0 in
-      let all = from_one_before P j n next (λ k upon f. none k f upon) (λ f there past ready. passed f there past ready) in
+      let all = from_one_before P j n next (λ k upon f. none k f upon) (λ f there past ready. passed j e f at neither there past ready) in
       λ k f upon. all k upon f
-    where
-      passed : (f : Place × Sets) → slice_get es j ≡ Some f → IsPast after f.0 → IsReady (from_entries es) f.0 → ⊥
-      passed f there past ready = neither (subst (λ (y : Place × Sets). IsPast after y.0) (sym (same_Some e f (sym at ∙ there))) past) (ready_free es rising j f there ready)
   first_passed j n e (Some p) next at neither first =
       let P : ℕ → Type 0 = λ k. (f : Place × Sets) → slice_get es k ≡ Some f → IsPast after f.0 → IsReady (from_entries es) f.0 → ¬ IsBefore f.0 p in
-      let all = from_one_before P j n next (λ k upon f. first.2 k f upon) (λ f there past ready before. absurd (passed f there past ready)) in
+      let all = from_one_before P j n next (λ k upon f. first.2 k f upon) (λ f there past ready before. absurd (passed j e f at neither there past ready)) in
       (first.0, first.1, λ k f upon. all k upon f)
-    where
-      passed : (f : Place × Sets) → slice_get es j ≡ Some f → IsPast after f.0 → IsReady (from_entries es) f.0 → ⊥
-      passed f there past ready = neither (subst (λ (y : Place × Sets). IsPast after y.0) (sym (same_Some e f (sym at ∙ there))) past) (ready_free es rising j f there ready)
 
   -- from the start on it is the least one of all
   pub first_of_all : (i : ℕ) (first : Option Place) → i ≤ 0 → IsFirstFrom after es i first → IsFirstReady (from_entries es) after first

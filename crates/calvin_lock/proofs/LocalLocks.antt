@@ -1,6 +1,6 @@
 -- The locks of one partition are ready exactly where its unreleased requests are, and they follow each step of these.
 use Rattle.std.proofs.Common.{◌≡◌, ◌≢◌, Bool, true, false, cond, ◌||◌, inl, inr, ◌↔◌, List, [], ◌∷◌, ◌++◌, Option, Some, None, refl, sym, ap, subst, ◌∙◌}
-use Rattle.std.proofs.lemmas.Bool.{false≢true, or_cases}
+use Rattle.std.proofs.lemmas.Bool.{false≢true, or_cases, or_left, or_right}
 use Rattle.std.proofs.lemmas.Option.{none-some, same_Some}
 use Rattle.std.proofs.lemmas.List.Folds.{list_any-append}
 use Rattle.std.specs.List.{list_any}
@@ -19,7 +19,7 @@ use Rattle.calvin_lock.specs.Ready.{Requested, Conflict, IsReady}
 use Rattle.calvin_lock.specs.Local.{local_sets, ConflictAt, IsReadyAt, IsLockedAs}
 use Rattle.calvin_lock.specs.Locking.{IsNoKey}
 use Rattle.calvin_types.proofs.PlaceOrder.{place_total}
-use Rattle.calvin_lock.proofs.Conflicts.{or_left, or_right, of_either, in_first, in_second}
+use Rattle.calvin_lock.proofs.Conflicts.{of_either, in_first, in_second}
 
 one_key : (a b : Key) → eq_by_cmp key_cmp a b ≡ true → a ≡ b
 one_key a b h = key_cmp_exact a b ((Equal-is (key_cmp a b)).0 h)

@@ -1,10 +1,10 @@
 -- A list of requests in the order of their places, beside the finite map that it is.
-use Rattle.std.proofs.Common.{◌≡◌, ℕ, zero, suc, ◌+◌, ◌<◌, ◌≤◌, Bool, true, false, cond, T, ◌&&◌, inl, inr, List, [], ◌∷◌, ◌++◌, Option, Some, None, slice_get, length, refl, sym, ap, subst, ◌∙◌, arith}
+use Rattle.std.proofs.Common.{◌≡◌, ℕ, zero, suc, ◌+◌, ◌<◌, ◌≤◌, Bool, true, false, cond, T, inl, inr, List, [], ◌∷◌, ◌++◌, Option, Some, None, slice_get, length, refl, sym, ap, subst, ◌∙◌, arith}
 use Rattle.std.proofs.lemmas.Bool.{false≢true, cases_lt}
 use Rattle.std.proofs.lemmas.Option.{none-some, same_Some, slice_get_within}
 use Rattle.std.specs.declared.cmp.Ordering.{Ordering}
 use Rattle.std.specs.declared.cmp.Ordering.TheVariants.{Less, Equal, Greater}
-use Rattle.std.specs.Ordering.{is_lt, is_eq, eq_by_cmp}
+use Rattle.std.specs.Ordering.{is_lt, eq_by_cmp}
 use Rattle.std.specs.List.{remove}
 use Rattle.std.specs.FinMap as map
 use Rattle.std.specs.FinMap.{find, is_sorted, get, from_entries, get-from_entries, get-remove, same_map, from_entries_push}
@@ -15,23 +15,7 @@ use Rattle.calvin_types.specs.Places.{place_cmp, IsBefore}
 use Rattle.calvin_lock.specs.Ready.{Conflict, IsReady, IsPast, IsFirstReady}
 use Rattle.calvin_lock.specs.ListOrder.{UpTo, IsAt, IsFree, IsInOrder}
 use Rattle.calvin_types.proofs.PlaceOrder.{place_total, place_exact, not_before_itself, not_both, one_place, same_itself, not_same}
-
-first : (a b : Bool) → T (a && b) → T a
-first true b p = tt
-first false b p = p
-
-second : (a b : Bool) → T (a && b) → T b
-second true b p = p
-second false b p = absurd p
-
-both : (a b : Bool) → T a → T b → T (a && b)
-both true b p q = q
-both false b p q = p
-
-less : (o : Ordering) → T (is_lt o) → o ≡ Less
-less Less p = refl
-less Equal p = absurd p
-less Greater p = absurd p
+use Rattle.calvin_types.proofs.Tests.{first, second, both, less}
 
 is_less : (o : Ordering) → o ≡ Less → T (is_lt o)
 is_less o h = subst (λ r. T (is_lt r)) (sym h) tt

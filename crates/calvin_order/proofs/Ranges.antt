@@ -12,7 +12,7 @@ use Rattle.calvin_types.specs.declared.place.Slot.{Slot}
 use Rattle.calvin_types.specs.Places.{slot_cmp}
 use Rattle.calvin_order.specs.Merged.{Batch}
 use Rattle.calvin_order.specs.Merging.{Batches, Merging, batch_at, held_by, without_epoch, IsReady, EpochsFit}
-use Rattle.calvin_order.proofs.Slots.{slot_total, slot_exact, slot_eq, slot_eq_exact, slot_eq_self}
+use Rattle.calvin_types.proofs.SlotMaps.{slot_total, slot_exact, slot_eq, slot_eq_exact, slot_eq_self}
 use Rattle.calvin_order.proofs.Joining.{joined_none}
 
 pub none_in_range : (Args : Type 0) → EpochsFit {Args = Args} empty

@@ -1,14 +1,15 @@
 -- A set of keys is read key by key.
 --     grown form ds all      the set that a list spells of which ds is left, where all is what was read before
-use Rattle.std.proofs.Common.{◌≡◌, ◌≢◌, ℕ, suc, ◌+◌, ◌≤◌, ◌<◌, ◌&&◌, ◌==◌, Bool, true, false, List, [], ◌∷◌, length, Option, Some, None, option_and_then, nat_le, nat_lt, drop, get_or, refl, arith}
+use Rattle.std.proofs.Common.{◌≡◌, ◌≢◌, ℕ, suc, ◌+◌, ◌≤◌, ◌<◌, ◌&&◌, ◌==◌, Bool, true, false, List, ◌∷◌, length, Option, Some, None, option_and_then, nat_le, nat_lt, drop, get_or, refl, arith}
 use Rattle.std.proofs.lemmas.List.{drop_more}
+use Rattle.std.proofs.Math.Bool.{and-false}
 use Rattle.serde_json.specs.View.{view, items_view}
 use Rattle.serde_json.specs.declared.value.Value.{Value}
-use Rattle.std.specs.declared.cmp.Ordering.TheVariants.{Less, Equal, Greater}
 use Rattle.std.proofs.lemmas.Bool.Decides.{nat_tests}
 use Rattle.serde_json.specs.Data.{Data, Items, no_items, item}
 use Rattle.calvin_types.specs.declared.key.Key.{Key}
-use Rattle.calvin_types.specs.Keys.{insert_key, insert_all, takes, by_order, key_cmp}
+use Rattle.calvin_types.specs.Keys.{insert_key, insert_all, takes}
+use Rattle.calvin_types.proofs.Risings.{length-grows, length-grows_by, insert_all-grows_by}
 use Rattle.calvin_script.specs.Spelling.{only_if, each}
 
 -- the set of several keys more, all of which are new
@@ -17,18 +18,6 @@ with_more all ks = only_if (nat_le (length all + length ks) 16 && (length (inser
 
 abbrev pub grown : (Data → Option Key) → Items → List Key → Option (List Key)
 grown form ds all = option_and_then (with_more all) (each form ds)
-
-pub insert_key-length : (q : Key) (ks : List Key) → length (insert_key q ks) ≤ suc (length ks)
-insert_key-length q [] = omega arith
-insert_key-length q (k ∷ ks) = let h = insert_key-length q ks in elim (key_cmp q k) as (λ o. length (by_order o (q ∷ k ∷ ks) (k ∷ ks) (k ∷ insert_key q ks)) ≤ suc (length (k ∷ ks))) [ Less ↦ omega arith | Equal ↦ omega arith | Greater ↦ omega arith ]
-
-pub insert_key-grows : (q : Key) (ks : List Key) → length ks ≤ length (insert_key q ks)
-insert_key-grows q [] = omega arith
-insert_key-grows q (k ∷ ks) = let h = insert_key-grows q ks in elim (key_cmp q k) as (λ o. length (k ∷ ks) ≤ length (by_order o (q ∷ k ∷ ks) (k ∷ ks) (k ∷ insert_key q ks))) [ Less ↦ omega arith | Equal ↦ omega arith | Greater ↦ omega arith ]
-
-pub insert_all-length : (qs ks : List Key) → length (insert_all qs ks) ≤ length ks + length qs
-insert_all-length [] ks = omega arith
-insert_all-length (q ∷ qs) ks = let a = insert_all-length qs (insert_key q ks) in let b = insert_key-length q ks in omega arith
 
 -- ---- one key more
 
@@ -39,32 +28,28 @@ not_below m n h = grind (arith, nat_tests)
 too_many : (n : ℕ) → 16 < n → nat_le n 16 ≡ false
 too_many n h = grind (arith, nat_tests)
 
-and_false : (b : Bool) → (b && false) ≡ false
-and_false true = refl
-and_false false = refl
-
 more_new : (k : Key) (ks all : List Key) → length (insert_key k all) ≢ length all → with_more all (k ∷ ks) ≡ with_more (insert_key k all) ks
 more_new k ks all h =
-    let a = insert_key-length k all in
-    let b = insert_key-grows k all in
+    let a = length-grows_by k all in
+    let b = length-grows k all in
     let e : length all + suc (length ks) ≡ length (insert_key k all) + length ks = omega arith in
     rw e refl
 
 more_full : (k : Key) (ks all : List Key) → 16 < length (insert_key k all) → with_more all (k ∷ ks) ≡ None
 more_full k ks all h =
-    let a = insert_key-length k all in
+    let a = length-grows_by k all in
     let e = too_many (length all + suc (length ks)) (omega arith) in
     rw e refl
 
 more_twice : (k : Key) (ks all : List Key) → length (insert_key k all) ≡ length all → with_more all (k ∷ ks) ≡ None
 more_twice k ks all h =
-    let a = insert_all-length ks (insert_key k all) in
+    let a = insert_all-grows_by ks (insert_key k all) in
     let e = not_below (length (insert_all ks (insert_key k all))) (length all + suc (length ks)) (omega arith) in
-    rw (e, and_false) refl
+    rw (e, and-false) refl
 
 -- whether a key more is taken decides whether the whole list may be one
 refused_by : (a b : Bool) (k : Key) (ks all : List Key) → nat_lt (length all) (length (insert_key k all)) ≡ a → nat_le (length (insert_key k all)) 16 ≡ b → (a && b) ≡ false → with_more all (k ∷ ks) ≡ None
-refused_by false b k ks all e f h = more_twice k ks all (let l = insert_key-grows k all in let m : length (insert_key k all) ≤ length all = grind (arith, nat_tests) in omega arith)
+refused_by false b k ks all e f h = more_twice k ks all (let l = length-grows k all in let m : length (insert_key k all) ≤ length all = grind (arith, nat_tests) in omega arith)
 refused_by true false k ks all e f h = more_full k ks all (grind (arith, nat_tests))
 refused_by true true k ks all e f h = absurd (cc)
 

@@ -1,6 +1,7 @@
 -- A merge that holds what an assignment gives.
 use Rattle.std.proofs.Common.{◌≡◌, ℕ, zero, suc, ◌-◌, ◌<◌, Bool, true, false, cond, [], Option, Some, None, refl, sym, ap, subst, ◌∙◌, arith, inl, inr}
 use Rattle.std.proofs.lemmas.Bool.{cases_lt, false≢true}
+use Rattle.std.proofs.lemmas.Option.{same_Some}
 use Rattle.std.specs.Option.{unwrap_or, is_some}
 use Rattle.std.specs.Ordering.{eq_by_cmp, is_eq}
 use Rattle.std.specs.Cmp.{Equal-is, tied_itself}
@@ -9,13 +10,10 @@ use Rattle.calvin_types.specs.declared.place.Slot.{Slot}
 use Rattle.calvin_types.specs.Places.{slot_cmp}
 use Rattle.calvin_order.specs.Merged.{Batch, Assignment, merged}
 use Rattle.calvin_order.specs.Merging.{Merging, Batches, with_batch, without_epoch, held_by, IsComplete}
-use Rattle.calvin_order.proofs.Slots.{slot_total, slot_exact}
+use Rattle.calvin_types.proofs.SlotMaps.{slot_total, slot_exact}
 use Rattle.calvin_order.proofs.Joining.{merged_same}
 use Rattle.calvin_order.proofs.Ranges.{held_before}
 use Rattle.calvin_serial.specs.Holding.{slot_of, with_groups, HoldsOnly}
-
-same_batch : {X : Type 0} (a b : X) → Some a ≡ Some b → b ≡ a
-same_batch a b e = sym (ap (λ o. unwrap_or o a) e)
 
 module _ {Args : Type 0} (held : Batches Args) (slot : Slot) (new : Batch Args) where
   put_at : (q : Slot) (there : Bool) → eq_by_cmp slot_cmp q slot ≡ there → get (insert held slot new) q ≡ cond there (Some new) (get held q)
@@ -34,7 +32,7 @@ module _ {Args : Type 0} (held : Batches Args) (slot : Slot) (new : Batch Args) 
       → (q : Slot) (batch : Batch Args) → get (insert held slot new) q ≡ Some batch → batch ≡ B q
   put_given B gives given q batch got = go (eq_by_cmp slot_cmp q slot) refl where
     go : (b : Bool) → eq_by_cmp slot_cmp q slot ≡ b → batch ≡ B q
-    go true is = same_batch new batch (sym (put_at q true is) ∙ got) ∙ gives ∙ ap B (sym (slot_exact q slot ((Equal-is (slot_cmp q slot)).0 is)))
+    go true is = same_Some batch new (sym got ∙ put_at q true is) ∙ gives ∙ ap B (sym (slot_exact q slot ((Equal-is (slot_cmp q slot)).0 is)))
     go false is = given q batch (sym (put_at q false is) ∙ got)
 
 module _ {Args : Type 0} (B : Assignment Args) (parts e : ℕ) where

@@ -1,9 +1,11 @@
 -- Every case of the synod is right at every slot, in whatever world it happens.
-use Rattle.std.proofs.Common.{◌≡◌, ◌≢◌, ℕ, ◌+◌, ◌<◌, ◌≤◌, ◌^◌, Bool, true, false, true≢false, cond, ◌||◌, [], ◌∷◌, ◌++◌, ◌⊎◌, inl, ⊎_elim, refl, sym, ap, ◌∙◌, subst, arith, Option, Some, None, List}
+use Rattle.std.proofs.Common.{◌≡◌, ◌≢◌, ℕ, ◌+◌, ◌<◌, ◌≤◌, ◌^◌, Bool, true, false, true≢false, cond, [], ◌∷◌, ◌++◌, ◌⊎◌, inl, ⊎_elim, refl, sym, ap, ◌∙◌, subst, arith, Option, Some, None, List}
 use Rattle.std.specs.Prelude.{nat_eq, nat_lt, max, is_some}
 use Rattle.std.specs.Option.{unwrap_or}
 use Rattle.std.specs.List.{list_any, IsDistinct}
 use Rattle.std.specs.FinMap.{get, insert, remove, empty, get-empty}
+use Rattle.std.proofs.lemmas.Bool.{or_parts}
+use Rattle.std.proofs.lemmas.Option.{none-some, same_Some}
 use Rattle.calvin_types.specs.declared.place.Ballot.{Ballot}
 use Rattle.calvin_types.specs.declared.place.Slot.{Slot}
 use Rattle.calvin_types.specs.Places.{slot_cmp}
@@ -16,7 +18,8 @@ use Rattle.calvin_synod.specs.Quorums.{IsIn, IsChosen}
 use Rattle.calvin_synod.specs.declared.attempt.Attempt.{Attempt}
 use Rattle.calvin_synod.specs.Roles.{promise_in, vote_in, promise_at, vote_at, bars_prepare, bars_accept, promised, voted, batch_of, counts, if_counts, current, with_report, is_enough, counting, sending, next_ballot, started, refused_at, proposal_cmp, Learning, voters_of, knows, completes, learned}
 use Rattle.calvin_synod.specs.Cases.{slot_of, Replica, Letters, Silent, ToOne, ToAll, Deed, Refuses, Does, prepare, accept, counted, promise, refused, accepted, handle, propose, restart, fresh}
-use Rattle.calvin_synod.proofs.Slots.{same_slot_or_not, get_here, get_other, gone_here, gone_other, voters_here, voters_other, no_voters_here, no_voters_other}
+use Rattle.calvin_types.proofs.SlotMaps.{same_slot_or_not, get_here, get_other, gone_here, gone_other}
+use Rattle.calvin_synod.proofs.Proposals.{voters_here, voters_other, no_voters_here, no_voters_other}
 use Rattle.calvin_synod.proofs.Core.{Said, Reports, Proposes, Votes, Sound, sound_at_first}
 use Rattle.calvin_synod.proofs.Majorities.{distinct_none}
 use Rattle.calvin_synod.proofs.Replicas.{Seat, Learned, Holds, HoldsAt, holds_at, AcceptorMoves, ProposerMoves, LearnerMoves, moves_keep}
@@ -62,28 +65,18 @@ mute_refused me s b p slot (Reports a c r) t = let e = t.1 in cc
 mute_refused me s b p slot (Proposes c y) t = cc
 mute_refused me s b p slot (Votes a c y) t = let e = t.1 in cc
 
-none_not_some : {X : Type 0} {x : X} → None ≡ Some x → ⊥
-none_not_some e = cc
-
 -- a fresh learner has counted nobody's vote
 nobody_counted : (slot : Slot) (b : Ballot) → unwrap_or (get (empty {X = List ℕ} {R = proposal_cmp}) (record { slot = slot; ballot = b })) [] ≡ []
 nobody_counted slot b = ap (λ o. unwrap_or o []) (get-empty proposal_cmp (record { slot = slot; ballot = b }))
 
-or_right : (a b : Bool) → (a || b) ≡ false → b ≡ false
-or_right true b e = absurd (true≢false e)
-or_right false b e = e
-
-some_is : {X : Type 0} {x y : X} → Some x ≡ Some y → x ≡ y
-some_is e = cc
-
 -- the attempt for which a promise counts is the one under way
 pub current_is : {B : Type 0} (attempt : Option (Attempt B)) (from : ℕ) (ballot : Ballot) (t : Attempt B) → if_counts attempt from ballot ≡ Some t → (attempt ≡ Some t) × (counts t from ballot ≡ true)
-current_is None from ballot t e = absurd (none_not_some e)
+current_is None from ballot t e = absurd (none-some _ e)
 current_is {B} (Some u) from ballot t e = at_test (counts u from ballot) refl e
   where
     at_test : (b : Bool) → counts u from ballot ≡ b → cond b (Some u) None ≡ Some t → (Some u ≡ Some t) × (counts t from ballot ≡ true)
-    at_test true c e = (e, subst (λ (v : Attempt B). counts v from ballot ≡ true) (some_is e) c)
-    at_test false c e = absurd (none_not_some e)
+    at_test true c e = (e, subst (λ (v : Attempt B). counts v from ballot ≡ true) (same_Some _ _ e) c)
+    at_test false c e = absurd (none-some _ e)
 
 -- what a step of me, with what it says, owes at a slot
 abbrev pub Rightly : {B : Type 0} → ℕ → (Said B → Type 0) → Slot → ℕ → Replica B → Replica B → (Said B → Type 0) → Type 0
@@ -211,7 +204,7 @@ module _ {B : Type 0} {size : ℕ} {Sent : Said B → Type 0} {promises : ℕ �
       at_test true c = tt
       at_test false c =
           at_slot (λ k. (slot ≡ k → Sent (Votes from ballot batch)) → knows mine.learner from k ballot ≡ false → Rightly size Sent slot me mine (record mine { learner = learned size mine.learner from k ballot }) (Says me Silent slot)) k
-          (λ heard out. here (heard refl) (or_right (is_some (get mine.learner.given slot)) (list_any (nat_eq from) (voters_of mine.learner slot ballot)) out))
+          (λ heard out. here (heard refl) (or_parts (is_some (get mine.learner.given slot)) (list_any (nat_eq from) (voters_of mine.learner slot ballot)) out).1)
           (λ apart heard out. quiet (record mine { learner = learned size mine.learner from k ballot }) _ (λ x n. n) refl refl (omega arith) refl (λ b. learned_elsewhere from k ballot apart (completes size mine.learner k ballot) b))
           heard c
 
@@ -227,7 +220,7 @@ module _ {B : Type 0} {size : ℕ} {Sent : Said B → Type 0} {promises : ℕ �
   pub restart_right : RightDeed size Sent slot me mine (restart mine)
   restart_right = (
     accepts_still Sent _ me _ _ refl refl (λ x b r n. n) (λ x b v n. n),
-    proposing_still sound _ me _ _ h (omega arith) (λ t k. let e : get (empty {X = Attempt B} {R = slot_cmp}) slot ≡ None = get-empty slot_cmp slot in absurd (none_not_some (sym e ∙ k))) (λ b x n. n),
+    proposing_still sound _ me _ _ h (omega arith) (λ t k. let e : get (empty {X = Attempt B} {R = slot_cmp}) slot ≡ None = get-empty slot_cmp slot in absurd (none-some _ (sym e ∙ k))) (λ b x n. n),
     learning_nothing sound (Says me Silent slot) me (seat_of mine slot) (seat_of (record { acceptor = mine.acceptor; proposer = record { used = mine.proposer.used; seen = 0; attempts = empty }; learner = record { counted = empty; given = empty } }) slot) h (nobody_counted slot),
   )
 
@@ -257,38 +250,38 @@ module _ {B : Type 0} {size : ℕ} {Sent : Said B → Type 0} {promises : ℕ �
   accepted_gives from k ballot batch heard x = at_test (knows mine.learner from k ballot) (completes size mine.learner k ballot) refl refl
     where
       here : Sent (Votes from ballot batch) → knows mine.learner from slot ballot ≡ false → completes size mine.learner slot ballot ≡ true → IsChosen size (λ a b y. Sent (Votes a b y)) batch
-      here sent out enough = vote_chooses sound (λ _. ⊥) me (seat_of mine slot) (seat_of mine slot) h from ballot batch sent (or_right (is_some (get mine.learner.given slot)) (list_any (nat_eq from) (voters_of mine.learner slot ballot)) out) enough
+      here sent out enough = vote_chooses sound (λ _. ⊥) me (seat_of mine slot) (seat_of mine slot) h from ballot batch sent (or_parts (is_some (get mine.learner.given slot)) (list_any (nat_eq from) (voters_of mine.learner slot ballot)) out).1 enough
 
       at_test : (b c : Bool) → knows mine.learner from k ballot ≡ b → completes size mine.learner k ballot ≡ c → Gives (cond b (Refuses Known) (Does (record mine { learner = learned size mine.learner from k ballot }) Silent (cond c (Some (k, batch)) None))) slot x → IsChosen size (λ a b y. Sent (Votes a b y)) x
       at_test true c out enough g = absurd g
-      at_test false false out enough g = absurd (none_not_some g)
+      at_test false false out enough g = absurd (none-some _ g)
       at_test false true out enough g =
-          let at : k ≡ slot = ap (λ (p : Slot × B). p.0) (some_is g) in
-          let is : batch ≡ x = ap (λ (p : Slot × B). p.1) (some_is g) in
+          let at : k ≡ slot = ap (λ (p : Slot × B). p.0) (same_Some _ _ g) in
+          let is : batch ≡ x = ap (λ (p : Slot × B). p.1) (same_Some _ _ g) in
           subst (IsChosen size (λ a b y. Sent (Votes a b y))) is (here (heard (sym at)) (subst (λ s. knows mine.learner from s ballot ≡ false) at out) (subst (λ s. completes size mine.learner s ballot ≡ true) at enough))
 
   prepare_gives : (from : ℕ) (k : Slot) (ballot : Ballot) (bar : Option Ballot) (x : B) → Gives (prepare from mine k ballot bar) slot x → ⊥
-  prepare_gives from k ballot None x g = none_not_some g
-  prepare_gives from k ballot (Some p) x g = none_not_some g
+  prepare_gives from k ballot None x g = none-some _ g
+  prepare_gives from k ballot (Some p) x g = none-some _ g
 
   accept_gives : (from : ℕ) (k : Slot) (ballot : Ballot) (batch : B) (bar : Option Ballot) (x : B) → Gives (accept from mine k ballot batch bar) slot x → ⊥
-  accept_gives from k ballot batch None x g = none_not_some g
-  accept_gives from k ballot batch (Some p) x g = none_not_some g
+  accept_gives from k ballot batch None x g = none-some _ g
+  accept_gives from k ballot batch (Some p) x g = none-some _ g
 
   promise_gives : (from : ℕ) (k : Slot) (ballot : Ballot) (vote : Option (Vote B)) (attempt : Option (Attempt B)) (x : B) → Gives (promise size from mine k ballot vote attempt) slot x → ⊥
   promise_gives from k ballot vote None x = λ g. g
   promise_gives from k ballot vote (Some t) x = at_test (is_enough size t)
     where
       at_test : (c : Bool) → Gives (cond c (Does (record mine { proposer = sending mine.proposer k }) (ToAll (Accept k ballot (batch_of t.own (with_report t from vote)))) None) (Does (record mine { proposer = counting mine.proposer k t from vote }) Silent None)) slot x → ⊥
-      at_test true g = none_not_some g
-      at_test false g = none_not_some g
+      at_test true g = none-some _ g
+      at_test false g = none-some _ g
 
   refused_gives : (p : Ballot) (x : B) → Gives (refused mine p) slot x → ⊥
   refused_gives p x = at_test (nat_lt (max mine.proposer.used mine.proposer.seen) p.round)
     where
       at_test : (b : Bool) → Gives (cond b (Does (record mine { proposer = refused_at mine.proposer p }) Silent None) (Refuses NotCurrent)) slot x → ⊥
       at_test false g = g
-      at_test true g = none_not_some g
+      at_test true g = none-some _ g
 
   pub handle_gives : (from : ℕ) (m : Message B) → ((x : Said B) → Tells from m slot x → Sent x) → (x : B) → Gives (handle size from m mine) slot x → IsChosen size (λ a b y. Sent (Votes a b y)) x
   handle_gives from (Prepare k ballot) heard x g = absurd (prepare_gives from k ballot (bars_prepare (promise_at mine.acceptor k) ballot) x g)
@@ -303,10 +296,10 @@ propose_gives me mine k batch slot x = at_test (nat_lt (max mine.proposer.used m
   where
     at_test : (b : Bool) → Gives (cond b (Does (record mine { proposer = started me mine.proposer k batch }) (ToAll (Prepare k (next_ballot me mine.proposer))) None) (Refuses RoundsSpent)) slot x → ⊥
     at_test false g = g
-    at_test true g = none_not_some g
+    at_test true g = none-some _ g
 
 pub restart_gives : {B : Type 0} (mine : Replica B) (slot : Slot) (x : B) → Gives (restart mine) slot x → ⊥
-restart_gives mine slot x g = none_not_some g
+restart_gives mine slot x g = none-some _ g
 
 -- The step of one replica in any world: what it did is right, and nothing else changed at the slot.
 pub deed_keeps : {B : Type 0} {size : ℕ} {Sent Sent' : Said B → Type 0} {seats seats' : ℕ → Seat B} → Holds size Sent seats → (slot : Slot) (me : ℕ) (mine next : Replica B) (New : Said B → Type 0) → me < size → seats me ≡ seat_of mine slot → seats' me ≡ seat_of next slot
@@ -400,7 +393,7 @@ unfolding fresh
 holds_at_first {B} size Sent slot seats none same = record {
   sound = sound_at_first size Sent _ _ none (λ a. ap (λ s. s.vote) (same a) ∙ ap vote_in (get-empty slot_cmp slot));
   used_up = λ b x s. absurd (none (Proposes b x) s);
-  fair = λ r t e. absurd (none_not_some (sym (ap (λ s. s.attempt) (same r) ∙ get-empty slot_cmp slot) ∙ e));
+  fair = λ r t e. absurd (none-some _ (sym (ap (λ s. s.attempt) (same r) ∙ get-empty slot_cmp slot) ∙ e));
   learned = λ r. subst (λ (s : Seat B). Learned Sent s.voters) (sym (same r)) (record {
     distinct = λ b. subst (IsDistinct nat_eq) (sym (nobody_counted slot b)) distinct_none;
     cast = λ b a i. absurd (true≢false (sym (subst (IsIn a) (nobody_counted slot b) i)));

@@ -3,6 +3,7 @@
 use Rattle.std.proofs.Common.{◌≡◌, ℕ, ◌<◌, Bool, true, false, true≢false, cond, List, [], ◌∷◌, ◌⊎◌, inl, inr, ⊎_elim, refl, sym, ap, ◌∙◌, subst, Option, Some, None}
 use Rattle.std.specs.List.{AllByRecursion}
 use Rattle.std.specs.Ordering.{is_lt}
+use Rattle.std.proofs.lemmas.Option.{none-some, same_Some}
 use Rattle.calvin_types.specs.declared.place.Ballot.{Ballot}
 use Rattle.calvin_types.specs.Places.{ballot_cmp}
 use Rattle.calvin_synod.proofs.Ballots.{Below, AtMost}
@@ -202,9 +203,6 @@ pub record Allowed {B : Type 0} (size : ℕ) (Sent : Said B → Type 0) (promise
   -- a new proposal is backed, and the one of its ballot.
   pub proposals : (b : Ballot) (x : B) → Sent' (Proposes b x) → Sent (Proposes b x) ⊎ (Backed size Sent b x × ((y : B) → Sent' (Proposes b y) → y ≡ x))
 
-some_is : {X : Type 0} {x y : X} → Some x ≡ Some y → x ≡ y
-some_is e = cc
-
 -- An allowed step keeps what holds.
 module _ {B : Type 0} {size : ℕ} {Sent Sent' : Said B → Type 0} {promise promise' : ℕ → Option Ballot} {vote vote' : ℕ → Option (Vote B)} (s : Sound size Sent promise vote) (t : Allowed size Sent promise vote Sent' promise' vote') where
   safe_later : (b : Ballot) (v : B) → IsSafe size Sent promise b v → IsSafe size Sent' promise' b v
@@ -232,11 +230,11 @@ module _ {B : Type 0} {size : ℕ} {Sent Sent' : Said B → Type 0} {promise pro
         (t.votes a b v h);
     vote_cast = λ a u h. ⊎_elim
         (λ e. t.grows _ (s.vote_cast a u (sym e ∙ h)))
-        (λ n. subst (λ (x : Vote B). Sent' (Votes a x.ballot x.batch)) (some_is (sym n.1 ∙ h)) n.4)
+        (λ n. subst (λ (x : Vote B). Sent' (Votes a x.ballot x.batch)) (same_Some _ _ (sym n.1 ∙ h)) n.4)
         (t.kept a);
     vote_promised = λ a u h. ⊎_elim
         (λ e. (t.promises a).reaches u.ballot (s.vote_promised a u (sym e ∙ h)))
-        (λ n. subst (λ (x : Vote B). Reaches (promise' a) x.ballot) (some_is (sym n.1 ∙ h)) n.3)
+        (λ n. subst (λ (x : Vote B). Reaches (promise' a) x.ballot) (same_Some _ _ (sym n.1 ∙ h)) n.3)
         (t.kept a);
     report_latest = λ a b c r v h k below. ⊎_elim
         (λ old. ⊎_elim
@@ -264,14 +262,11 @@ sound_at_first size Sent promise vote none no_vote = record {
   reporter = λ a b r h. absurd (none _ h);
   promise_kept = λ a b r h. absurd (none _ h);
   vote_kept = λ a b v h. absurd (none _ h);
-  vote_cast = λ a u h. absurd (some_not_none (sym h ∙ no_vote a));
-  vote_promised = λ a u h. absurd (some_not_none (sym h ∙ no_vote a));
+  vote_cast = λ a u h. absurd (none-some u (sym (no_vote a) ∙ h));
+  vote_promised = λ a u h. absurd (none-some u (sym (no_vote a) ∙ h));
   report_latest = λ a b c r v h k below. absurd (none _ h);
   report_cast = λ a b u h. absurd (none _ h);
   vote_proposed = λ a b v h. absurd (none _ h);
   one_batch = λ b v w h k. absurd (none _ h);
   safe = λ b v h. absurd (none _ h);
 }
-  where
-    some_not_none : {X : Type 0} {x : X} → Some x ≡ None → ⊥
-    some_not_none e = cc

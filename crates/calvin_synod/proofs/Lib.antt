@@ -1,12 +1,12 @@
 pub mod Ballots
 pub mod Order
 pub mod Majorities
-pub mod Slots
+pub mod Proposals
 pub mod Core
 pub mod Replicas
 pub mod Roles
 pub mod Cases
-pub mod Maps
+pub mod ProposalMaps
 pub mod Bounds
 pub mod Voters
 pub mod Reported

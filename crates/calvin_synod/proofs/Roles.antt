@@ -1,9 +1,12 @@
 -- The cases of the three roles are steps that the core allows.
-use Rattle.std.proofs.Common.{◌≡◌, ◌≢◌, ℕ, suc, ◌+◌, ◌<◌, ◌≤◌, Bool, true, false, true≢false, cond, not, ◌&&◌, List, [], ◌∷◌, ◌++◌, length, inl, inr, ⊎_elim, refl, sym, ap, ◌∙◌, subst, arith, Option, Some, None, length-append}
+use Rattle.std.proofs.Common.{◌≡◌, ◌≢◌, ℕ, suc, ◌+◌, ◌<◌, ◌≤◌, Bool, true, false, true≢false, cond, not, List, [], ◌∷◌, ◌++◌, length, inl, inr, ⊎_elim, refl, sym, ap, ◌∙◌, subst, arith, Option, Some, None, length-append}
 use Rattle.std.specs.Prelude.{nat_eq, nat_le}
 use Rattle.std.specs.List.{list_any, IsDistinct, AllByRecursion}
 use Rattle.std.specs.Ordering.{is_lt, eq_by_cmp}
+use Rattle.std.proofs.lemmas.Bool.{not-true, leb-true}
+use Rattle.std.proofs.lemmas.Option.{none-some, same_Some}
 use Rattle.calvin_types.specs.declared.place.Ballot.{Ballot}
+use Rattle.calvin_types.specs.Exact.{first, second}
 use Rattle.calvin_types.specs.Places.{ballot_cmp}
 use Rattle.calvin_synod.proofs.Ballots.{AtMost}
 use Rattle.calvin_synod.specs.Quorums.{IsIn, majority, IsChosen}
@@ -15,12 +18,6 @@ use Rattle.calvin_synod.proofs.Order.{at_most_itself, at_most_of_below, at_most_
 use Rattle.calvin_synod.proofs.Majorities.{distinct_none, distinct_push, is_in_push_cases}
 use Rattle.calvin_synod.proofs.Core.{Said, Reports, Proposes, Votes, Reaches, Open, VotedFrom, Grows, Sound, Backed}
 use Rattle.calvin_synod.proofs.Replicas.{Seat, Fair, Learned, HoldsAt, AcceptorMoves, ProposerMoves, LearnerMoves}
-
-some_is : {X : Type 0} {x y : X} → Some x ≡ Some y → x ≡ y
-some_is e = cc
-
-some_not_none : {X : Type 0} {x : X} → Some x ≡ None → ⊥
-some_not_none e = cc
 
 -- ---- the acceptor
 
@@ -39,14 +36,14 @@ prepare_open (Some p) b h = at_test (is_lt (ballot_cmp p b)) refl h
   where
     at_test : (t : Bool) → is_lt (ballot_cmp p b) ≡ t → cond t None (Some p) ≡ None → AtMost p b
     at_test true e k = at_most_of_below (below_from_test e)
-    at_test false e k = absurd (some_not_none k)
+    at_test false e k = absurd (none-some _ (sym k))
 
 accept_open : (p : Option Ballot) (b : Ballot) → bars_accept p b ≡ None → Open p b
 accept_open None b h = tt
 accept_open (Some p) b h = at_test (is_lt (ballot_cmp b p)) refl h
   where
     at_test : (t : Bool) → is_lt (ballot_cmp b p) ≡ t → cond t (Some p) None ≡ None → AtMost p b
-    at_test true e k = absurd (some_not_none k)
+    at_test true e k = absurd (none-some _ (sym k))
     at_test false e k = at_most_from_test e
 
 grows_to : (p : Option Ballot) (b : Ballot) → Open p b → Grows p (Some b)
@@ -76,18 +73,6 @@ accepts_vote {B = B} Sent New me old next v free proposed e f no_report vote tol
 
 -- ---- the proposer
 
-and_left : (a b : Bool) → (a && b) ≡ true → a ≡ true
-and_left true b h = refl
-and_left false b h = absurd (true≢false (sym h))
-
-and_right : (a b : Bool) → (a && b) ≡ true → b ≡ true
-and_right true b h = h
-and_right false b h = absurd (true≢false (sym h))
-
-not_true : (a : Bool) → not a ≡ true → a ≡ false
-not_true true h = absurd (true≢false (sym h))
-not_true false h = refl
-
 -- what it takes for a report to count
 pub record Countable {B : Type 0} (t : Attempt B) (from : ℕ) (ballot : Ballot) : Type 0 where
   pub same : t.ballot ≡ ballot
@@ -97,12 +82,9 @@ pub countable : {B : Type 0} (t : Attempt B) (from : ℕ) (ballot : Ballot) → 
 countable t from ballot h =
     let here : Bool = list_any (nat_eq from) (reporters t.counted) in
     record {
-      same = same_from_test t.ballot ballot (and_left (eq_by_cmp ballot_cmp t.ballot ballot) (not here) h);
-      out = λ k. true≢false (sym k ∙ not_true here (and_right (eq_by_cmp ballot_cmp t.ballot ballot) (not here) h));
+      same = same_from_test t.ballot ballot (first (eq_by_cmp ballot_cmp t.ballot ballot) (not here) h);
+      out = λ k. true≢false (sym k ∙ not-true here (second (eq_by_cmp ballot_cmp t.ballot ballot) (not here) h));
     }
-
-at_least : (m n : ℕ) → nat_le m n ≡ true → m ≤ n
-at_least m n h = grind arith
 
 reporters_push : {B : Type 0} (c : List (Report B)) (r : Report B) → reporters (c ++ r ∷ []) ≡ reporters c ++ r.from ∷ []
 reporters_push [] r = refl
@@ -133,7 +115,7 @@ module _ {B : Type 0} {size : ℕ} {Sent : Said B → Type 0} {promise : ℕ →
   proposing_start t e owner above within nobody none = record {
     used = omega arith;
     proposals = λ b x n. absurd (none b x n);
-    fair = λ u k. subst (λ y. Fair size Sent me next.used y × ((x : B) → New (Proposes y.ballot x) → ⊥)) (some_is (sym e ∙ k)) (started, λ x n. none t.ballot x n);
+    fair = λ u k. subst (λ y. Fair size Sent me next.used y × ((x : B) → New (Proposes y.ballot x) → ⊥)) (same_Some _ _ (sym e ∙ k)) (started, λ x n. none t.ballot x n);
   }
     where
       started : Fair size Sent me next.used t
@@ -166,7 +148,7 @@ module _ {B : Type 0} {size : ℕ} {Sent : Said B → Type 0} {promise : ℕ →
     proposing_count used e none = record {
       used = omega arith;
       proposals = λ b x n. absurd (none b x n);
-      fair = λ u k. subst (λ y. Fair size Sent me next.used y × ((x : B) → New (Proposes y.ballot x) → ⊥)) (some_is (sym e ∙ k)) (
+      fair = λ u k. subst (λ y. Fair size Sent me next.used y × ((x : B) → New (Proposes y.ballot x) → ⊥)) (same_Some _ _ (sym e ∙ k)) (
         record { owner = f.owner; within = subst (λ n. t.ballot.round ≤ n) (sym used) f.within; distinct = distinct_more; members = members_more; reported = reported_more; unsent = f.unsent },
         λ x n. none t.ballot x n,
       );
@@ -180,7 +162,7 @@ module _ {B : Type 0} {size : ℕ} {Sent : Said B → Type 0} {promise : ℕ →
         distinct = distinct_more;
         within = members_more;
         enough =
-            let k : majority size ≤ length t.counted + 1 = at_least (majority size) (length t.counted + 1) e in
+            let k : majority size ≤ length t.counted + 1 = leb-true (majority size) (length t.counted + 1) e in
             let m = length_reporters (t.counted ++ r ∷ []) in
             omega (arith, m, length-append t.counted (r ∷ []));
       };
@@ -199,7 +181,7 @@ module _ {B : Type 0} {size : ℕ} {Sent : Said B → Type 0} {promise : ℕ →
         subst (λ (z : Ballot × B). Backed size Sent z.0 z.1) (λ i. (sym y.0 i, sym y.1 i)) (backed enough),
         λ z k. (one b z k).1 ∙ sym y.1,
       );
-      fair = λ u k. absurd (some_not_none (sym k ∙ e));
+      fair = λ u k. absurd (none-some _ (sym e ∙ k));
     }
 
   -- ---- the learner
@@ -265,7 +247,7 @@ module _ {B : Type 0} {size : ℕ} {Sent : Said B → Type 0} {promise : ℕ →
       record {
         distinct = voters_distinct;
         within = λ a i. let c = voters_cast a i in s.voter a ballot c.0 c.1;
-        enough = let k : majority size ≤ length (old.voters ballot) + 1 = at_least (majority size) (length (old.voters ballot) + 1) e in omega (arith, length-append (old.voters ballot) (from ∷ []));
+        enough = let k : majority size ≤ length (old.voters ballot) + 1 = leb-true (majority size) (length (old.voters ballot) + 1) e in omega (arith, length-append (old.voters ballot) (from ∷ []));
       },
       λ a i. let c = voters_cast a i in subst (λ y. Sent (Votes a ballot y)) (s.one_batch ballot c.0 batch (s.vote_proposed a ballot c.0 c.1) (s.vote_proposed from ballot batch sent)) c.1,
     )

@@ -2,16 +2,10 @@
 use Rattle.std.proofs.Common.{◌≡◌, Bool, true, false, cond, List, [], ◌∷◌, Some, None, refl, sym, ap, ◌∙◌}
 use Rattle.std.proofs.lemmas.Bool.{false≢true}
 use Rattle.std.specs.declared.cmp.Ordering.{Ordering}
-use Rattle.std.specs.declared.cmp.Ordering.TheVariants.{Less, Equal, Greater}
 use Rattle.std.specs.Ordering.{is_eq, eq_by_cmp}
-use Rattle.std.specs.Cmp.{IsTotalOrder, tied_itself, eq_by_cmp_equiv}
+use Rattle.std.specs.Cmp.{IsTotalOrder, Equal-is, tied_itself, eq_by_cmp_equiv}
 use Rattle.std.specs.Map.{lookup}
 use Rattle.std.specs.FinMap.{IsAntisymmetric, find, get, insert, remove, from_entries, get-from_entries, get-insert, get-remove, same_map}
-
-tied : (o : Ordering) → is_eq o ≡ true → o ≡ Equal
-tied Less h = absurd (false≢true h)
-tied Equal h = refl
-tied Greater h = absurd (false≢true h)
 
 module _ {K : Type 0} (eq : K → K → Bool) (R : K → K → Ordering) (total : IsTotalOrder R) (exact : IsAntisymmetric R)
     (eq_exact : (a b : K) → eq a b ≡ true → a ≡ b) (eq_self : (a : K) → eq a a ≡ true) where
@@ -20,7 +14,7 @@ module _ {K : Type 0} (eq : K → K → Bool) (R : K → K → Ordering) (total 
   alike a b = go (eq a b) refl (is_eq (R a b)) refl where
     go : (c : Bool) → eq a b ≡ c → (d : Bool) → is_eq (R a b) ≡ d → eq a b ≡ is_eq (R a b)
     go true p d q = p ∙ sym (ap (λ x. is_eq (R a x)) (sym (eq_exact a b p)) ∙ ap is_eq (tied_itself total a))
-    go false p true q = absurd (false≢true (sym p ∙ ap (λ x. eq a x) (sym (exact a b (tied (R a b) q))) ∙ eq_self a))
+    go false p true q = absurd (false≢true (sym p ∙ ap (λ x. eq a x) (sym (exact a b ((Equal-is (R a b)).0 q))) ∙ eq_self a))
     go false p false q = p ∙ sym q
 
   module _ {X : Type 0} where

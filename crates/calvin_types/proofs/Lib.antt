@@ -1,3 +1,4 @@
+pub mod ExactMaps
 pub mod Fews
 pub mod HashMaps
 pub mod KeyLists
@@ -5,3 +6,5 @@ pub mod KeySets
 pub mod ListTests
 pub mod PlaceOrder
 pub mod Risings
+pub mod SlotMaps
+pub mod Tests

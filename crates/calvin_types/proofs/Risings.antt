@@ -2,8 +2,8 @@
 use Rattle.std.proofs.Common.{◌≡◌, ◌≢◌, ℕ, ◌+◌, ◌<◌, ◌≤◌, Bool, true, false, cond, ◌||◌, List, [], ◌∷◌, ◌++◌, length, take, drop, Some, slice_get, refl, sym, ◌∙◌, ap, append_assoc, arith}
 use Rattle.std.specs.List.{filter, insert}
 use Rattle.std.proofs.lemmas.Bool.{false≢true}
-use Rattle.std.proofs.lemmas.List.{take_more, drop_all, take-append-drop, length-drop, append-nil}
-use Rattle.std.proofs.lemmas.Option.{slice_get_within, get_or_from_slice_get}
+use Rattle.std.proofs.lemmas.List.{drop_all, take-append-drop, length-drop, append-nil}
+use Rattle.std.proofs.lemmas.Option.{slice_get_within}
 use Rattle.std.specs.declared.cmp.Ordering.{Ordering}
 use Rattle.std.specs.declared.cmp.Ordering.TheVariants.{Less, Equal, Greater}
 use Rattle.std.specs.Ordering.{is_lt, is_eq, ordering_reverse}
@@ -12,7 +12,7 @@ use Rattle.calvin_types.specs.Exact.{first, second, both}
 use Rattle.calvin_types.specs.Keys.{key_cmp, has, below_all, rises, by_order, insert_key, insert_all}
 use Rattle.calvin_types.specs.KeyOrder.{key_cmp_total}
 use Rattle.calvin_types.specs.KeyPlaces.{IsAt, IsMissingAt}
-use Rattle.calvin_types.proofs.Fews.{drop_at}
+use Rattle.calvin_types.proofs.Fews.{drop_at, take_at}
 
 pub less : (o : Ordering) → is_lt o ≡ true → o ≡ Less
 less Less h = refl
@@ -72,7 +72,7 @@ module _ (q : Key) (ks : List Key) (i : ℕ) (k : Key) (here : slice_get ks i �
   }
 
   pub next_insert : key_cmp q k ≡ Greater → insert_key q ks ≡ take (i + 1) ks ++ insert_key q (drop (i + 1) ks)
-  next_insert is = insert_at Greater is ∙ sym (append_assoc (take i ks) (k ∷ []) (insert_key q (drop (i + 1) ks))) ∙ ap (λ xs. xs ++ insert_key q (drop (i + 1) ks)) (sym (take_more ks i k (slice_get_within ks i k here) ∙ ap (λ x. take i ks ++ x ∷ []) (get_or_from_slice_get ks i k k here)))
+  next_insert is = insert_at Greater is ∙ sym (append_assoc (take i ks) (k ∷ []) (insert_key q (drop (i + 1) ks))) ∙ ap (λ xs. xs ++ insert_key q (drop (i + 1) ks)) (sym (take_at ks i k here))
 
   pub next_has : key_cmp q k ≡ Greater → has ks q ≡ has (drop (i + 1) ks) q
   next_has is = has_at Greater is
@@ -89,11 +89,8 @@ last_key q ks i n past upto is so missing =
       insert_is = so ∙ ap (λ xs. take i ks ++ insert_key q xs) (drop_all i ks past) ∙ ap (λ xs. take i ks ++ q ∷ xs) (sym (drop_all i ks past)) ∙ ap (λ (m : ℕ). insert ks m q) (sym all);
     }
 
-by_cases : {P : Type 0} (b : Bool) → (b ≡ true → P) → (b ≡ false → P) → P
-by_cases true p q = p refl
-by_cases false p q = q refl
-
-length-grows : (q : Key) (ks : List Key) → length ks ≤ length (insert_key q ks)
+-- with one key more there are no fewer, and at most one more
+pub length-grows : (q : Key) (ks : List Key) → length ks ≤ length (insert_key q ks)
 length-grows q [] = omega arith
 length-grows q (k ∷ ks) = elim (key_cmp q k) as (λ o. length (k ∷ ks) ≤ length (by_order o (q ∷ k ∷ ks) (k ∷ ks) (k ∷ insert_key q ks))) [
   | Less ↦ omega arith
@@ -101,7 +98,7 @@ length-grows q (k ∷ ks) = elim (key_cmp q k) as (λ o. length (k ∷ ks) ≤ l
   | Greater ↦ omega (arith, length-grows q ks)
 ]
 
-length-grows_by : (q : Key) (ks : List Key) → length (insert_key q ks) ≤ length ks + 1
+pub length-grows_by : (q : Key) (ks : List Key) → length (insert_key q ks) ≤ length ks + 1
 length-grows_by q [] = omega arith
 length-grows_by q (k ∷ ks) = elim (key_cmp q k) as (λ o. length (by_order o (q ∷ k ∷ ks) (k ∷ ks) (k ∷ insert_key q ks)) ≤ length (k ∷ ks) + 1) [
   | Less ↦ omega arith
@@ -133,9 +130,6 @@ fewer qs ks all i q here so number same =
 
 pub one_more : (ks : List Key) (q : Key) → length (insert_key q ks) ≢ length ks → length (insert_key q ks) ≡ length ks + 1
 one_more ks q h = omega (arith, length-grows q ks, length-grows_by q ks)
-
-pub at_most_one_more : (ks : List Key) (q : Key) → length (insert_key q ks) ≤ length ks + 1
-at_most_one_more ks q = length-grows_by q ks
 
 below_filter : (p : Key → Bool) (x : Key) (ks : List Key) → below_all x ks ≡ true → below_all x (filter p ks) ≡ true
 below_filter p x [] h = refl

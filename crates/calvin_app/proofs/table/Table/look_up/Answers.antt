@@ -1,8 +1,9 @@
 use Rattle.std.proofs.Common.{sym, ◌∙◌, ap, arith, rules}
 use Rattle.std.specs.FinMap as map
 use Rattle.calvin_types.specs.Keys.{key_cmp}
+use Rattle.calvin_types.proofs.Fews.{take_at}
 use Rattle.calvin_app.specs.Rows.{view}
-use Rattle.calvin_app.proofs.Views.{view-none, view-push_row, view-push_none, take-at, len-insert-le}
+use Rattle.calvin_app.proofs.Views.{view-none, view-push_row, view-push_none, len-insert-le}
 use Rattle.calvin_app.proofs.table.Table.look_up.Goals as goal
 use Rattle.calvin_app.proofs.table.Table.look_up.Goals.{in-Some, in-None}
 
@@ -14,7 +15,7 @@ loop-i-init g c = record {
 
 pub loop-i-preserved : goal.loop-i-preserved
 loop-i-preserved g c =
-    let more = take-at c.args.keys.now c.loop-i.i c.at-key.result c.at-key.ensures in
+    let more = take_at c.args.keys.now c.loop-i.i c.at-key.result c.at-key.ensures in
     elim c.match-get.branch [
       | in-Some w ↦ record {
         so_far = w.seen-is ∙ w.put.ensures ∙ ap (λ m. map.insert m c.at-key.result w.in-Some.row) c.loop-i.invariant.so_far ∙ view-push_row c.args.self.now _ c.at-key.result w.in-Some.row (sym w.in-Some.ensures) ∙ ap (view c.args.self.now) (sym more);

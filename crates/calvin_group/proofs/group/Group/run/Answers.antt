@@ -1,6 +1,7 @@
 -- Each event leads on; and what holds of every list of events holds of these, after those that led here.
 use Rattle.std.proofs.Common.{rules}
-use Rattle.calvin_group.proofs.Reached.{led_on, still_one, run_gives, run_one, run_stays}
+use Rattle.calvin_group.proofs.Reached.{led_on, still_one, run_gives, run_one}
+use Rattle.calvin_group.proofs.Runs.{chosen_stays}
 use Rattle.calvin_group.proofs.group.Group.run.Goals as goal
 
 pub returns-in_err-outcomes-clause-one : goal.returns-in_err-outcomes-clause-one
@@ -20,4 +21,4 @@ pub returns-clause-one : goal.returns-clause-one
 returns-clause-one g c = run_one _ _ c.self.invariant.1 _ c.self.view_is _ _ _ c.loop-event.invariant.led
 
 pub returns-clause-stays : goal.returns-clause-stays
-returns-clause-stays g c = run_stays _ _ _ _ c.loop-event.invariant.led
+returns-clause-stays g c = chosen_stays _ _ _ _ c.loop-event.invariant.led

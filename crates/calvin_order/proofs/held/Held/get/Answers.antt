@@ -1,6 +1,6 @@
 use Rattle.std.proofs.Common.{sym, ap, ◌∙◌}
 use Rattle.std.specs.FinMap as map
-use Rattle.calvin_order.proofs.Slots.{got}
+use Rattle.calvin_types.proofs.SlotMaps.{got}
 use Rattle.calvin_order.proofs.held.Held.get.Goals as goal
 
 pub returns : goal.returns

@@ -1,6 +1,6 @@
 use Rattle.std.proofs.Common.{◌-◌, ap, ◌∙◌}
 use Rattle.std.specs.FinMap as map
-use Rattle.calvin_order.proofs.Slots.{put}
+use Rattle.calvin_types.proofs.SlotMaps.{put}
 use Rattle.calvin_order.proofs.held.Held.insert.Goals as goal
 
 pub returns-clause-held : goal.returns-clause-held

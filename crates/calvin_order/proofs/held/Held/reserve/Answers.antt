@@ -1,5 +1,5 @@
 use Rattle.std.proofs.Common.{max, ap, sym, ◌∙◌}
-use Rattle.calvin_order.proofs.Slots.{same}
+use Rattle.calvin_types.proofs.SlotMaps.{same}
 use Rattle.calvin_order.proofs.held.Held.reserve.Goals as goal
 
 pub returns-in_ok-reserve-clause-reserved : goal.returns-in_ok-reserve-clause-reserved

@@ -1,20 +1,15 @@
-use Rattle.std.proofs.Common.{◌≡◌, ◌++◌, ◌∷◌, [], Some, None, sym, ap, ◌∙◌}
+use Rattle.std.proofs.Common.{◌++◌, ◌∷◌, [], sym, ap, ◌∙◌}
 use Rattle.std.specs.Prelude.{is_some}
 use Rattle.std.specs.FinMap as map
-use Rattle.calvin_synod.proofs.Maps.{got, put}
+use Rattle.std.proofs.lemmas.Option.{none-some, same_Some}
+use Rattle.calvin_types.proofs.SlotMaps.{got, put}
 use Rattle.calvin_synod.proofs.by_slot.BySlot+Attempt+B.count.Goals as goal
-
-none_not_some : {X : Type 0} {x : X} → None ≡ Some x → ⊥
-none_not_some e = cc
-
-some_is : {X : Type 0} {x y : X} → Some x ≡ Some y → x ≡ y
-some_is e = cc
 
 pub returns-in_default : goal.returns-in_default
 returns-in_default g c = record {
   counted = λ t e.
       let none = sym (ap (λ m. map.get m.entries c.args.slot) c.self.view_is) ∙ got c.self.inside.entries.entries c.args.slot ∙ sym c.in_default.ensures.value in
-      absurd (none_not_some (sym none ∙ e));
+      absurd (none-some _ (sym none ∙ e));
 }
 
 pub push-requires : goal.push-requires
@@ -26,7 +21,7 @@ returns g c = record {
       let there = sym c.in-Some.ensures.value in
       let after = record c.in-Some.attempt.now { counted = c.push.new.self } in
       let written = (c.get_mut.follows.holds after).3 (ap is_some there) in
-      let is = some_is (sym (sym (ap (λ m. map.get m.entries c.args.slot) c.self.view_is) ∙ got c.self.inside.entries.entries c.args.slot ∙ there) ∙ e) in
+      let is = same_Some _ _ (sym (sym (ap (λ m. map.get m.entries c.args.slot) c.self.view_is) ∙ got c.self.inside.entries.entries c.args.slot ∙ there) ∙ e) in
       let counted = c.push.ensures ∙ ap (λ u. u.counted ++ c.args.report ∷ []) is in
       let entries =
       put c.self.inside.entries.entries (c.get_mut.follows.lender after).entries c.args.slot after written.0

@@ -2,7 +2,7 @@ use Rattle.std.proofs.Common.{◌-◌, None, cond, sym, ap, ◌∙◌}
 use Rattle.std.specs.Prelude.{is_some}
 use Rattle.std.specs.FinMap as map
 use Rattle.calvin_synod.specs.Roles.{vote_in}
-use Rattle.calvin_synod.proofs.Maps.{got, put}
+use Rattle.calvin_types.proofs.SlotMaps.{got, put}
 use Rattle.calvin_synod.proofs.by_slot.BySlot+Recorded+B.promise.Goals as goal
 
 pub returns-in-Some-clause-promised : goal.returns-in-Some-clause-promised

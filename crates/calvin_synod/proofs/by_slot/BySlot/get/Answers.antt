@@ -1,6 +1,6 @@
 use Rattle.std.proofs.Common.{sym, ap, ◌∙◌}
 use Rattle.std.specs.FinMap as map
-use Rattle.calvin_synod.proofs.Maps.{got}
+use Rattle.calvin_types.proofs.SlotMaps.{got}
 use Rattle.calvin_synod.proofs.by_slot.BySlot.get.Goals as goal
 
 pub returns : goal.returns

@@ -1,6 +1,6 @@
 use Rattle.std.proofs.Common.{◌-◌, sym, ap, ◌∙◌}
 use Rattle.std.specs.FinMap as map
-use Rattle.calvin_synod.proofs.Maps.{got, put}
+use Rattle.calvin_types.proofs.SlotMaps.{got, put}
 use Rattle.calvin_synod.proofs.by_slot.BySlot.insert.Goals as goal
 
 pub returns-in-Err-clause-absent : goal.returns-in-Err-clause-absent

@@ -1,6 +1,6 @@
 use Rattle.std.proofs.Common.{sym, ap, ◌∙◌}
 use Rattle.std.specs.FinMap as map
-use Rattle.calvin_synod.proofs.Maps.{got, gone}
+use Rattle.calvin_types.proofs.SlotMaps.{got, removed}
 use Rattle.calvin_synod.proofs.by_slot.BySlot.remove.Goals as goal
 
 pub returns-clause-value : goal.returns-clause-value
@@ -8,6 +8,6 @@ returns-clause-value g c = c.remove.ensures.value ∙ sym (got c.self.inside.ent
 
 pub returns-clause-removed : goal.returns-clause-removed
 returns-clause-removed g c =
-    let entries = gone c.self.inside.entries.entries c.remove.new.self.entries c.args.slot c.remove.ensures.updates.0 ∙ ap (λ m. map.remove m.entries c.args.slot) c.self.view_is in
+    let entries = removed c.self.inside.entries.entries c.remove.new.self.entries c.args.slot c.remove.ensures.updates.0 ∙ ap (λ m. map.remove m.entries c.args.slot) c.self.view_is in
     let room = ap (λ m. m.room) c.self.view_is in
     λ i. record { entries = entries i; room = room i }

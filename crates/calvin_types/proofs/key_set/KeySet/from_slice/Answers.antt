@@ -2,18 +2,18 @@ use Rattle.std.proofs.Common.{◌≡◌, ◌+◌, [], sym, refl, ◌∙◌, ap, 
 use Rattle.std.proofs.lemmas.Bool.{ne_eqb}
 use Rattle.std.proofs.lemmas.Option.{slice_get-get_or}
 use Rattle.calvin_types.specs.Keys.{insert_all, insert_key}
-use Rattle.calvin_types.proofs.Risings.{insert_all-at, fewer, one_more, at_most_one_more}
+use Rattle.calvin_types.proofs.Risings.{insert_all-at, fewer, one_more, length-grows_by}
 use Rattle.calvin_types.proofs.key_set.KeySet.from_slice.Goals as goal
 
 pub returns-in_err-insert-clause-many : goal.returns-in_err-insert-clause-many
 returns-in_err-insert-clause-many c =
     let q = get_or c.args.keys.now c.loop-key.key-index (record { table = 0; id = 0 }) in
-    absurd (omega (arith, c.in_err-insert.ensures.full.0 refl, at_most_one_more c.loop-key.all q, c.loop-key.invariant.number, c.loop-key-test.true, c.if-keys-gt-MOST_KEYS.false))
+    absurd (omega (arith, c.in_err-insert.ensures.full.0 refl, length-grows_by q c.loop-key.all, c.loop-key.invariant.number, c.loop-key-test.true, c.if-keys-gt-MOST_KEYS.false))
 
 pub returns-in_err-insert-clause-repeated : goal.returns-in_err-insert-clause-repeated
 returns-in_err-insert-clause-repeated c =
     let q = get_or c.args.keys.now c.loop-key.key-index (record { table = 0; id = 0 }) in
-    absurd (omega (arith, c.in_err-insert.ensures.full.0 refl, at_most_one_more c.loop-key.all q, c.loop-key.invariant.number, c.loop-key-test.true, c.if-keys-gt-MOST_KEYS.false))
+    absurd (omega (arith, c.in_err-insert.ensures.full.0 refl, length-grows_by q c.loop-key.all, c.loop-key.invariant.number, c.loop-key-test.true, c.if-keys-gt-MOST_KEYS.false))
 
 pub returns-then-len-before-clause-repeated : goal.returns-then-len-before-clause-repeated
 returns-then-len-before-clause-repeated c =

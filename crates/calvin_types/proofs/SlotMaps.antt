@@ -1,19 +1,16 @@
--- Slots in their order, and a hash map of slots beside the finite map that its entries are.
-use Rattle.std.proofs.Common.{◌≡◌, ℕ, Bool, true, false, cond, ◌&&◌, List, Some, None, nat_eq, refl, ap, eqb-true, eq-eqb}
-use Rattle.std.proofs.lemmas.Bool.{false≢true}
+-- Slots in their order, maps of slots, and a hash map of slots beside the finite map that its entries are.
+use Rattle.std.proofs.Common.{◌≡◌, ◌≢◌, ℕ, Bool, true, cond, ◌&&◌, ◌⊎◌, List, Some, None, nat_eq, refl, ap, eqb-true, eq-eqb}
 use Rattle.std.specs.Ordering.{nat_cmp}
 use Rattle.std.specs.Cmp.{IsTotalOrder, nat_cmp_total}
 use Rattle.std.specs.Map.{lookup}
-use Rattle.std.specs.FinMap.{IsAntisymmetric, get, insert, remove, from_entries}
+use Rattle.std.specs.FinMap.{FinMap, IsAntisymmetric, get, insert, remove, from_entries}
+use Rattle.std.proofs.lemmas.Bool.{and_parts}
 use Rattle.std.proofs.lemmas.Cmp.{on_total, then_total}
 use Rattle.std.proofs.lemmas.Map.Lookups.{exact_pairs, exact_unsigned}
 use Rattle.calvin_types.specs.declared.place.Slot.{Slot}
 use Rattle.calvin_types.specs.Places.{slot_cmp}
+use Rattle.calvin_types.proofs.ExactMaps.{same_or_not, insert_here, insert_other, remove_here, remove_other}
 use Rattle.calvin_types.proofs.HashMaps as maps
-
--- what `==` answers of two slots
-abbrev pub slot_eq : Slot → Slot → Bool
-slot_eq a b = nat_eq a.epoch b.epoch && nat_eq a.group b.group
 
 pub slot_total : IsTotalOrder slot_cmp
 slot_total = then_total (on_total (λ (s : Slot). s.epoch) nat_cmp_total) (on_total (λ (s : Slot). s.group) nat_cmp_total)
@@ -21,13 +18,33 @@ slot_total = then_total (on_total (λ (s : Slot). s.epoch) nat_cmp_total) (on_to
 pub slot_exact : IsAntisymmetric slot_cmp
 slot_exact a b h = ap (λ (p : ℕ × ℕ). record { epoch = p.0; group = p.1 }) (exact_pairs nat_cmp nat_cmp exact_unsigned exact_unsigned (a.epoch, a.group) (b.epoch, b.group) h)
 
-both : (a b : Bool) → (a && b) ≡ true → (a ≡ true) × (b ≡ true)
-both true b h = (refl, h)
-both false b h = absurd (false≢true h)
+pub same_slot_or_not : (s t : Slot) → (s ≡ t) ⊎ (s ≢ t)
+same_slot_or_not s t = same_or_not slot_cmp slot_total slot_exact s t
+
+-- ---- what a map has at a slot, after one slot's value changed
+
+module _ {X : Type 0} (m : FinMap slot_cmp X) (k : Slot) where
+  pub get_here : (v : X) → get (insert m k v) k ≡ Some v
+  get_here v = insert_here slot_cmp slot_total slot_exact m k v
+
+  pub get_other : (v : X) (q : Slot) → q ≢ k → get (insert m k v) q ≡ get m q
+  get_other v q far = insert_other slot_cmp slot_total slot_exact m k v q far
+
+  pub gone_here : get (remove m k) k ≡ None
+  gone_here = remove_here slot_cmp slot_total slot_exact m k
+
+  pub gone_other : (q : Slot) → q ≢ k → get (remove m k) q ≡ get m q
+  gone_other q far = remove_other slot_cmp slot_total slot_exact m k q far
+
+-- ---- a hash map
+
+-- what `==` answers of two slots
+abbrev pub slot_eq : Slot → Slot → Bool
+slot_eq a b = nat_eq a.epoch b.epoch && nat_eq a.group b.group
 
 pub slot_eq_exact : (a b : Slot) → slot_eq a b ≡ true → a ≡ b
 slot_eq_exact a b h =
-    let parts = both (nat_eq a.epoch b.epoch) (nat_eq a.group b.group) h in
+    let parts = and_parts (nat_eq a.epoch b.epoch) (nat_eq a.group b.group) h in
     let epoch = eqb-true a.epoch b.epoch parts.0 in
     let group = eqb-true a.group b.group parts.1 in
     λ i. record { epoch = epoch i; group = group i }
@@ -49,5 +66,5 @@ module _ {X : Type 0} where
   put es fs slot v h = maps.one_put slot_eq slot_cmp slot_total slot_exact slot_eq_exact slot_eq_self es fs slot v h
 
   -- entries of which one slot has gone make a map without it
-  pub taken_out : (es fs : List (Slot × X)) (slot : Slot) → ((q : Slot) → lookup (slot_eq q) fs ≡ cond (slot_eq slot q) None (lookup (slot_eq q) es)) → from_entries {R = slot_cmp} fs ≡ remove (from_entries es) slot
-  taken_out es fs slot h = maps.one_removed slot_eq slot_cmp slot_total slot_exact slot_eq_exact slot_eq_self es fs slot h
+  pub removed : (es fs : List (Slot × X)) (slot : Slot) → ((q : Slot) → lookup (slot_eq q) fs ≡ cond (slot_eq slot q) None (lookup (slot_eq q) es)) → from_entries {R = slot_cmp} fs ≡ remove (from_entries es) slot
+  removed es fs slot h = maps.one_removed slot_eq slot_cmp slot_total slot_exact slot_eq_exact slot_eq_self es fs slot h
