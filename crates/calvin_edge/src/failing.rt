@@ -7,8 +7,8 @@ use crate::source::{ReadFailed, Source};
 use crate::tally::Tally;
 use std::alloc::Global;
 
-/// Bytes in memory of which a number of calls give a number of bytes, after which reads fail.
-/// A new one never fails: set the fields to say when it does.
+/// Bytes in memory of which a number of calls give a number of bytes, after which reads fail. A new one never fails:
+/// set the fields to say when it does.
 #[derive(Debug, Drop)]
 pub struct FailingSource<'a> {
     /// The bytes still to come.
@@ -86,8 +86,8 @@ pub enum WriteFailure {
     TakesNone,
 }
 
-/// A list that takes a number of bytes in a number of calls, after which writes fail. A new one
-/// fails only for want of memory: set the fields to say when else it does.
+/// A list that takes a number of bytes in a number of calls, after which writes fail. A new one fails only for want of
+/// memory: set the fields to say when else it does.
 #[derive(Debug, Drop)]
 pub struct FailingSink {
     /// The bytes that were taken.

@@ -7,8 +7,7 @@ use crate::source::{ReadFailed, Source};
 use crate::tally::Tally;
 use std::alloc::Global;
 
-/// Bytes in memory, borrowed from their owner. Reading them never fails, and gives as many as there
-/// is room for.
+/// Bytes in memory, borrowed from their owner. Reading them never fails, and gives as many as there is room for.
 #[derive(Clone, Copy, Debug)]
 pub struct MemorySource<'a> {
     /// The bytes still to come.
@@ -45,8 +44,8 @@ impl Source for MemorySource<'_> {
     }
 }
 
-/// A list that grows by the bytes it is given, all of them at each write. A write is refused only
-/// where there is no memory for it.
+/// A list that grows by the bytes it is given, all of them at each write. A write is refused only where there is no
+/// memory for it.
 #[derive(Debug, Drop)]
 pub struct MemorySink {
     /// The bytes that were taken.
