@@ -4,8 +4,9 @@ ghost use Rattle.calvin_edge.specs.Complaints.{complaint};
 
 use calvin_types::Fault;
 
-/// The line that standard error gets for a fault: `calvin: `, its number, a space, its name and a
-/// line feed. It takes no memory, so that want of memory can be told too.
+/// The line that standard error gets for a fault: `calvin: `, its number, a space, its name and a line feed. It takes
+/// no memory, so that want of memory can be told too.
+#[tactic(auto, using(std::proofs::lemmas::Fmt::decimal_step, std::proofs::lemmas::Fmt::decimal_digit))]
 pub fn complaint(fault: Fault) -> &'static str
     ensures text { result.now ≡ complaint fault }
 {

@@ -1,5 +1,5 @@
 //! Devices over memory that fail at a stated call or byte, for tests.
-ghost use Rattle.std.specs.Prelude.{◌≡◌, ◌+◌, ◌≤◌, ◌<◌, Some, IfOk, OnOk, OnErr, IsOk, IsErr, length, min, vec_len};
+ghost use Rattle.std.specs.Prelude.{◌≡◌, ◌+◌, ◌≤◌, ◌<◌, Some, IfOk, OnOk, OnErr, IsOk, IsErr, length, min, vec_len, vec_capacity};
 ghost use Rattle.std.specs.Io.KnownBytes.{ReadConsumes, WriteAppends};
 
 use crate::sink::{Sink, WriteFailed};
@@ -7,8 +7,8 @@ use crate::source::{ReadFailed, Source};
 use crate::tally::Tally;
 use std::alloc::Global;
 
-/// Bytes in memory of which a number of calls give a number of bytes, after which reads fail.
-/// A new one never fails: set the fields to say when it does.
+/// Bytes in memory of which a number of calls give a number of bytes, after which reads fail. A new one never fails:
+/// set the fields to say when it does.
 #[derive(Debug, Drop)]
 pub struct FailingSource<'a> {
     /// The bytes still to come.
@@ -52,11 +52,14 @@ impl Source for FailingSource<'_> {
         ensures bytes { ReadConsumes (Some self.old.left.now) (Some self.new.left.now) result buffer.new }
         ensures counts_no_success { OnOk result (self.new.failures ≡ self.old.failures) }
         ensures counts_a_refusal { OnErr result (self.new.failures ≡ self.old.failures + 1) }
+        // A refused read leaves the limits as they are, so all later reads are refused too.
+        ensures refused { OnErr result (self.new ≡ record self.old { failures = self.old.failures + 1 }) }
         ensures gives { 0 < min self.old.calls (min self.old.bytes self.old.most) → IsOk result }
         ensures gives_only_then { OnOk result (0 < min self.old.calls (min self.old.bytes self.old.most)) }
         ensures one_call_less { OnOk result (self.new.calls + 1 ≡ self.old.calls) }
         ensures bytes_less { IfOk result (λ n. self.new.bytes + n ≡ self.old.bytes) }
-        ensures at_most { IfOk result (λ n. n ≤ self.old.most) }
+        ensures as_many { IfOk result (λ n. n ≡ min (length self.old.left.now)
+            (min (length buffer.old) (min self.old.bytes self.old.most))) }
         ensures same_most { self.new.most ≡ self.old.most }
     {
         if self.calls == 0 || self.bytes == 0 || self.most == 0 {
@@ -83,8 +86,8 @@ pub enum WriteFailure {
     TakesNone,
 }
 
-/// A list that takes a number of bytes in a number of calls, after which writes fail. A new one
-/// fails only for want of memory: set the fields to say when else it does.
+/// A list that takes a number of bytes in a number of calls, after which writes fail. A new one fails only for want of
+/// memory: set the fields to say when else it does.
 #[derive(Debug, Drop)]
 pub struct FailingSink {
     /// The bytes that were taken.
@@ -153,7 +156,16 @@ impl Sink for FailingSink {
         ensures refuses { self.old.failure ≡ WriteFailure.Refused → IfOk result (λ n. 0 < n) }
         ensures one_call_less { IfOk result (λ n. 0 < n → self.new.calls + 1 ≡ self.old.calls) }
         ensures bytes_less { IfOk result (λ n. self.new.bytes + n ≡ self.old.bytes) }
-        ensures at_most { IfOk result (λ n. n ≤ self.old.most) }
+        ensures as_many { 0 < min self.old.calls (min self.old.bytes self.old.most)
+            → IfOk result (λ n. n ≡ min (length bytes.now) (min self.old.bytes self.old.most)) }
+        ensures full { 0 < min (length bytes.now) (min self.old.calls (min self.old.bytes self.old.most))
+            → OnErr result (vec_capacity self.old.taken
+            < vec_len self.old.taken + min (length bytes.now) (min self.old.bytes self.old.most)) }
+        // A failed write leaves the limits as they are, so once they are reached all later writes fail too.
+        ensures refused { OnErr result (self.new
+            ≡ record self.old { taken = self.new.taken; failures = self.old.failures + 1 }) }
+        ensures none_taken { IfOk result (λ n. n ≡ 0
+            → self.new ≡ record self.old { failures = self.old.failures + 1 }) }
         ensures same_most { self.new.most ≡ self.old.most }
         ensures same_failure { self.new.failure ≡ self.old.failure }
     {

@@ -1,7 +1,7 @@
-//! The edge of the program: where a script's bytes come from and where a text's bytes go, as two
-//! small traits with devices over memory and over std's readers and writers; the whole of a script
-//! in; the whole of a text out; and the line that tells of a refusal. Each device counts its
-//! failures, so that a contract can say whose refusal an answer rests on.
+//! The edge of the program: where a script's bytes come from and where a text's bytes go, as two small traits with
+//! devices over memory and over std's readers and writers; the whole of a script in; the whole of a text out; and the
+//! line that tells of a refusal. Each device counts its failures, so that a contract can say whose refusal an answer
+//! rests on.
 #![tactic(auto)]
 
 mod complaints;

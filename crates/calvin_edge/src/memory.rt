@@ -1,13 +1,13 @@
 //! Devices over memory.
-ghost use Rattle.std.specs.Prelude.{◌≡◌, Some, vec_len};
+ghost use Rattle.std.specs.Prelude.{◌≡◌, ◌+◌, ◌<◌, ◌≤◌, zero, Some, Ok, IfOk, OnOk, OnErr, length, min, vec_len, vec_capacity};
+ghost use Rattle.std.specs.Io.KnownBytes.{ReadConsumes, WriteAppends};
 
 use crate::sink::{Sink, WriteFailed};
 use crate::source::{ReadFailed, Source};
 use crate::tally::Tally;
 use std::alloc::Global;
 
-/// Bytes in memory, borrowed from their owner. Reading them never fails, and gives as many as there
-/// is room for.
+/// Bytes in memory, borrowed from their owner. Reading them never fails, and gives as many as there is room for.
 #[derive(Clone, Copy, Debug)]
 pub struct MemorySource<'a> {
     /// The bytes still to come.
@@ -28,7 +28,14 @@ impl Source for MemorySource<'_> {
 
     ghost failures = { λ _. 0 };
 
-    fn read(&mut self, buffer: &mut [u8]) -> Result<usize, ReadFailed> {
+    fn read(&mut self, buffer: &mut [u8]) -> Result<usize, ReadFailed>
+        ensures as_many { result ≡ Ok (min (length self.old.left.now) (length buffer.old)) }
+        ensures bound { IfOk result (λ n. n ≤ length buffer.new) }
+        ensures bytes { ReadConsumes (Some self.old.left.now) (Some self.new.left.now) result buffer.new }
+        // The trait's clauses on failures, of a source that has none.
+        ensures counts_no_success { OnOk result (zero ≡ 0) }
+        ensures counts_a_refusal { OnErr result (zero ≡ 1) }
+    {
         let n = self.left.len().min(buffer.len());
         let (front, rest) = self.left.split_at(n);
         buffer[..n].copy_from_slice(front);
@@ -37,8 +44,8 @@ impl Source for MemorySource<'_> {
     }
 }
 
-/// A list that grows by the bytes it is given, all of them at each write. A write is refused only
-/// where there is no memory for it.
+/// A list that grows by the bytes it is given, all of them at each write. A write is refused only where there is no
+/// memory for it.
 #[derive(Debug, Drop)]
 pub struct MemorySink {
     /// The bytes that were taken.
@@ -65,7 +72,13 @@ impl Sink for MemorySink {
 
     ghost failures = { λ s. s.failures };
 
-    fn write(&mut self, bytes: &[u8]) -> Result<usize, WriteFailed> {
+    fn write(&mut self, bytes: &[u8]) -> Result<usize, WriteFailed>
+        ensures all { IfOk result (λ n. n ≡ length bytes.now) }
+        ensures bytes { WriteAppends (Some self.old.taken.items) (Some self.new.taken.items) result bytes.now }
+        ensures full { OnErr result (vec_capacity self.old.taken < vec_len self.old.taken + length bytes.now) }
+        ensures counts_no_success { OnOk result (self.new.failures ≡ self.old.failures) }
+        ensures counts_a_refusal { OnErr result (self.new.failures ≡ self.old.failures + 1) }
+    {
         match self.taken.extend_from_slice(bytes) {
             Ok(()) => Ok(bytes.len()),
             Err(_) => {

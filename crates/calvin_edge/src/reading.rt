@@ -15,10 +15,10 @@ const FIRST_ROOM: usize = 65_536;
 
 /// All the bytes of a source, to its end.
 ///
-/// `ReadFailed` where a read is refused; `ScriptTooLong` as soon as one byte more than `MOST_BYTES`
-/// was read, and nothing past that byte is; `OutOfMemory` where the text can't grow, and then no
-/// read was refused. At a refusal the bytes that were read are gone. The text grows twofold, so it
-/// never takes more than about one and a half times `MOST_BYTES` while it moves.
+/// `ReadFailed` where a read is refused; `ScriptTooLong` as soon as one byte more than `MOST_BYTES` was read, and
+/// nothing past that byte is; `OutOfMemory` where the text can't grow, and then no read was refused. At a refusal the
+/// bytes that were read are gone. The text grows twofold, so it never takes more than about one and a half times
+/// `MOST_BYTES` while it moves.
 pub fn read_all<S: Source>(alloc: Global, source: &mut S) -> Result<Vec<u8>, Fault>
     ensures most { IfOk result (λ text. length text.items ≤ MOST_BYTES) }
     ensures whole { IfOk result (λ text. Consumes (S.left source.old) (S.left source.new) text.items) }
@@ -45,8 +45,8 @@ pub fn read_all<S: Source>(alloc: Global, source: &mut S) -> Result<Vec<u8>, Fau
     Err(Fault::ScriptTooLong)
 }
 
-/// Makes the text longer than what is filled of it, by zeros, unless it is. It takes room for twice
-/// as much, and never for more than one byte too many.
+/// Makes the text longer than what is filled of it, by zeros, unless it is. It takes room for twice as much, and never
+/// for more than one byte too many.
 fn make_room(text: &mut Vec<u8>, filled: usize) -> Result<(), AllocError>
     requires filled { filled ≤ vec_len text.old }
     requires within { filled ≤ MOST_BYTES }

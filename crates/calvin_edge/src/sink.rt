@@ -16,8 +16,8 @@ pub trait Sink {
     /// How many writes were refused, or took no byte.
     ghost failures: { Self → ℕ };
 
-    /// Takes bytes from the front of `bytes`, of which there must be at least one, and answers how
-    /// many it took. It may take fewer than there are. A write that takes none counts as a failure.
+    /// Takes bytes from the front of `bytes`, of which there must be at least one, and answers how many it took. It may
+    /// take fewer than there are. A write that takes none counts as a failure.
     fn write(&mut self, bytes: &[u8]) -> Result<usize, WriteFailed>
         requires not_empty { 0 < length bytes.now }
         ensures bound { IfOk result (λ n. n ≤ length bytes.now) }

@@ -16,9 +16,9 @@ pub trait Source {
     /// How many reads were refused.
     ghost failures: { Self → ℕ };
 
-    /// Moves the next bytes to the front of the buffer, and answers how many they are. It may give
-    /// fewer than there is room for, and gives none only at the end of the bytes or where the
-    /// buffer has no room. What stands behind them in the buffer is of no account.
+    /// Moves the next bytes to the front of the buffer, and answers how many they are. It may give fewer than there is
+    /// room for, and gives none only at the end of the bytes or where the buffer has no room. What stands behind them
+    /// in the buffer is of no account.
     fn read(&mut self, buffer: &mut [u8]) -> Result<usize, ReadFailed>
         ensures bound { IfOk result (λ n. n ≤ length buffer.new) }
         ensures bytes { ReadConsumes (left self.old) (left self.new) result buffer.new }

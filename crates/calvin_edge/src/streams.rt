@@ -13,9 +13,8 @@ use std::io::{ErrorKind, Read, Write};
 /// The most times that one call is tried while signals interrupt it, as often as std tries.
 const MOST_TRIES: u64 = u64::MAX;
 
-/// A reader of std's, as standard input or a file, read with no buffer between. A read that a
-/// signal interrupts is tried again, and after `u64::MAX` tries it is refused. A reader that has
-/// failed may be read again.
+/// A reader of std's, as standard input or a file, read with no buffer between. A read that a signal interrupts is
+/// tried again, and after `u64::MAX` tries it is refused. A reader that has failed may be read again.
 #[derive(Drop)]
 pub struct InputSource<R: Read + Drop> {
     /// The reader.
@@ -72,11 +71,10 @@ fn read_uninterrupted<R: Read>(reader: &mut R, buffer: &mut [u8]) -> io::Result<
     Err(io::Error::from(ErrorKind::TimedOut))
 }
 
-/// A writer of std's. Its bytes go where its own `write` puts them, at once: over standard output,
-/// standard error or a file they are out as the call returns, since those keep none back. A writer
-/// that keeps bytes back, as `BufWriter`, has to be flushed by its owner. A write that a signal
-/// interrupts is tried again, and after `u64::MAX` tries it is refused. A write that takes none is
-/// refused.
+/// A writer of std's. Its bytes go where its own `write` puts them, at once: over standard output, standard error or a
+/// file they are out as the call returns, since those keep none back. A writer that keeps bytes back, as `BufWriter`,
+/// has to be flushed by its owner. A write that a signal interrupts is tried again, and after `u64::MAX` tries it is
+/// refused. A write that takes none is refused.
 #[derive(Drop)]
 pub struct OutputSink<W: Write + Drop> {
     /// The writer.

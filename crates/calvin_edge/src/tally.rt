@@ -5,8 +5,8 @@ use std::fmt;
 use std::marker::Model;
 use std::snapshot::Snapshot;
 
-/// How many times something happened, as clauses see it: a number with no bound. A proof remembers
-/// the tally before; the machine keeps, in one byte, only whether it has happened at all.
+/// How many times something happened, as clauses see it: a number with no bound. A proof remembers the tally before;
+/// the machine keeps, in one byte, only whether it has happened at all.
 #[cycle(tally)]
 #[derive(Drop)]
 pub struct Tally {

@@ -159,8 +159,8 @@ fn a_failed_write_is_told(rt: HostRuntime) {
     }
 }
 
-/// Gives or takes a byte at each second call, and says at the others that a signal came between,
-/// until it has moved `until` bytes: from then on it fails.
+/// Gives or takes a byte at each second call, and says at the others that a signal came between, until it has moved
+/// `until` bytes: from then on it fails.
 #[derive(Drop)]
 struct Signalled {
     bytes: Vec<u8>,

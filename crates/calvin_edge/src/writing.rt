@@ -4,8 +4,8 @@ ghost use Rattle.std.specs.Io.KnownBytes.{Appends};
 
 use crate::sink::{Sink, WriteFailed};
 
-/// Writes all of the bytes, in as many writes as the sink wants. It stops at the first write that
-/// is refused or takes none: then a proper beginning of the bytes is out, and no more was tried.
+/// Writes all of the bytes, in as many writes as the sink wants. It stops at the first write that is refused or takes
+/// none: then a proper beginning of the bytes is out, and no more was tried.
 pub fn write_all<K: Sink>(sink: &mut K, bytes: &[u8]) -> Result<(), WriteFailed>
     ensures whole { OnOk result (Appends (K.taken sink.old) (K.taken sink.new) bytes.now) }
     ensures no_failure { OnOk result (K.failures sink.new ≡ K.failures sink.old) }

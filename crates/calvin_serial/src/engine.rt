@@ -109,12 +109,7 @@ pub fn serial<S: Source, K: Sink>(alloc: Global, source: &mut S, sink: &mut K) -
         → K.failures sink.new ≡ K.failures sink.old }
 {
     let bytes = read_all(alloc, source)?;
-    let text = match answer(alloc, &bytes) {
-        Ok(text) => text,
-        Err(fault) => return Err(fault),
-    };
-    match write_all(sink, &text) {
-        Ok(()) => Ok(()),
-        Err(_) => Err(Fault::WriteFailed),
-    }
+    let text = answer(alloc, &bytes)?;
+    write_all(sink, &text)?;
+    Ok(())
 }
