@@ -15,7 +15,7 @@ use Rattle.calvin_types.specs.Places.{place_cmp, IsBefore}
 use Rattle.calvin_lock.specs.Ready.{Conflict, IsReady, IsPast, IsFirstReady}
 use Rattle.calvin_lock.specs.ListOrder.{UpTo, IsAt, IsFree, IsInOrder}
 use Rattle.calvin_types.proofs.PlaceOrder.{place_total, place_exact, not_before_itself, not_both, one_place, same_itself, not_same}
-use Rattle.calvin_types.proofs.Tests.{first, second, both, less}
+use Rattle.calvin_types.proofs.Conjunctions.{first, second, both, less}
 
 is_less : (o : Ordering) → o ≡ Less → T (is_lt o)
 is_less o h = subst (λ r. T (is_lt r)) (sym h) tt

@@ -8,7 +8,7 @@ use Rattle.std.specs.FinMap.Entries.{by_order, below_all}
 use Rattle.calvin_types.specs.declared.key.Key.{Key}
 use Rattle.calvin_types.specs.Keys.{key_cmp}
 use Rattle.calvin_types.specs.KeyOrder.{key_cmp_total}
-use Rattle.calvin_types.proofs.Tests.{first, second, both, less}
+use Rattle.calvin_types.proofs.Conjunctions.{first, second, both, less}
 use Rattle.calvin_app.specs.Entries.{rising}
 
 turned : (x y : Key) (o : Ordering) → key_cmp x y ≡ o → key_cmp y x ≡ ordering_reverse o

@@ -1,3 +1,4 @@
+pub mod Conjunctions
 pub mod ExactMaps
 pub mod Fews
 pub mod HashMaps
@@ -7,4 +8,3 @@ pub mod ListTests
 pub mod PlaceOrder
 pub mod Risings
 pub mod SlotMaps
-pub mod Tests

@@ -11,7 +11,7 @@ use Rattle.calvin_types.specs.declared.key.Key.{Key}
 use Rattle.calvin_types.specs.Exact.{first, second, both}
 use Rattle.calvin_types.specs.Keys.{key_cmp, has, below_all, rises, by_order, insert_key, insert_all}
 use Rattle.calvin_types.specs.KeyOrder.{key_cmp_total}
-use Rattle.calvin_types.specs.KeyPlaces.{IsAt, IsMissingAt}
+use Rattle.calvin_types.specs.KeyPlaces.{IsThere, IsMissingAt}
 use Rattle.calvin_types.proofs.Fews.{drop_at, take_at}
 
 pub less : (o : Ordering) → is_lt o ≡ true → o ≡ Less
@@ -61,7 +61,7 @@ module _ (q : Key) (ks : List Key) (i : ℕ) (k : Key) (here : slice_get ks i �
   together : take i ks ++ k ∷ drop (i + 1) ks ≡ ks
   together = ap (λ xs. take i ks ++ xs) (sym (drop_at ks i k here)) ∙ take-append-drop i ks
 
-  pub found_key : key_cmp q k ≡ Equal → IsAt q ks i
+  pub found_key : key_cmp q k ≡ Equal → IsThere q ks
   found_key is = record { there = has_at Equal is; insert_is = insert_at Equal is ∙ together }
 
   pub free_key : key_cmp q k ≡ Less → IsMissingAt q ks i

@@ -1,7 +1,7 @@
 //! Sets of at most sixteen keys, and the two sets that a request declares.
-ghost use Rattle.std.specs.Prelude.{◌≡◌, ◌==◌, ℕ, ◌<◌, ◌≤◌, ◌↔◌, [], ◌∷◌, length, IsTrue, false, nat_le, slice_get, ◌⊎◌, IfErr, IfOk, OnOk, OnErr, IsErr, IsErrOf, IsOkUnless, MatchResult};
+ghost use Rattle.std.specs.Prelude.{◌≡◌, ◌==◌, ℕ, ◌<◌, ◌≤◌, ◌↔◌, [], ◌∷◌, length, IsTrue, false, nat_le, slice_get, ◌⊎◌, IfErr, IfOk, OnOk, OnErr, IsErr, IsErrOf, IsOkUnless, MatchOption};
 ghost use Rattle.std.specs.List.{filter, list_any, list_all};
-ghost use Rattle.calvin_types.specs.KeyPlaces.{IsAt, IsMissingAt};
+ghost use Rattle.calvin_types.specs.KeyPlaces.{IsThere, IsMissingAt};
 ghost use Rattle.calvin_types.specs.Keys.{rises, has, insert_key, insert_all, are_distinct, takes, partition_of};
 ghost use Rattle.calvin_types.specs.Participants.{site, is_local, local_keys};
 
@@ -93,7 +93,7 @@ impl KeySet {
     pub fn has(&self, key: Key) -> bool
         ensures { result ≡ has self.now key }
     {
-        place_of(&self.keys, key).is_ok()
+        free_place(&self.keys, key).is_none()
     }
 
     /// Adds a key, unless it is there. Refused with `TooManyKeys` where it would be the seventeenth.
@@ -104,7 +104,7 @@ impl KeySet {
         ensures full { IsErr result ↔ (16 < length (insert_key key self.old)) }
         ensures at_most { length self.new ≤ 16 }
     {
-        if let Err(i) = place_of(&self.keys, key) {
+        if let Some(i) = free_place(&self.keys, key) {
             if self.keys.len() == MOST_KEYS {
                 return Err(Fault::TooManyKeys);
             }
@@ -120,8 +120,8 @@ impl KeySet {
         ensures kept { result ≡ false → self.new ≡ self.old }
         ensures at_most { length self.new ≤ 16 }
     {
-        match place_of(&self.keys, key) {
-            Err(i) if self.keys.len() < MOST_KEYS => {
+        match free_place(&self.keys, key) {
+            Some(i) if self.keys.len() < MOST_KEYS => {
                 self.keys.insert(i, key);
                 true
             }
@@ -219,18 +219,18 @@ impl KeySet {
     }
 }
 
-/// The place of a key, or the place that it would take.
-fn place_of(keys: &KeyList, key: Key) -> Result<usize, usize>
+/// The place that a key would take, unless it is among the keys.
+fn free_place(keys: &KeyList, key: Key) -> Option<usize>
     requires { IsTrue (rises keys.now) }
-    ensures { MatchResult result (IsAt key keys.now) (IsMissingAt key keys.now) }
+    ensures { MatchOption result (IsThere key keys.now) (IsMissingAt key keys.now) }
 {
     for i in 0..keys.len() {
         let other = keys.at(i);
         if key <= other {
-            return if key == other { Ok(i) } else { Err(i) };
+            return if key == other { None } else { Some(i) };
         }
     }
-    Err(keys.len())
+    Some(keys.len())
 }
 
 /// The keys that a request declares that it reads, and those that it writes (Thomson et al. 2012, section 3.2: a

@@ -3,7 +3,7 @@ use Rattle.std.specs.Cmp.Rules.{comparing}
 use Rattle.std.specs.declared.cmp.Ordering.TheVariants.{Less, Equal, Greater}
 use Rattle.calvin_types.specs.Keys.{key_cmp}
 use Rattle.calvin_types.proofs.Risings.{found_key, free_key, next_insert, next_has, next_rises, last_key}
-use Rattle.calvin_types.proofs.key_set.place_of.Goals as goal
+use Rattle.calvin_types.proofs.key_set.free_place.Goals as goal
 
 pub returns-then-eq : goal.returns-then-eq
 returns-then-eq c =

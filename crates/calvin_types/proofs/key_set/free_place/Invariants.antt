@@ -1,7 +1,7 @@
 use Rattle.std.proofs.Common.{◌≡◌, ◌++◌, take, drop}
 use Rattle.std.specs.Prelude.{IsTrue}
 use Rattle.calvin_types.specs.Keys.{rises, has, insert_key}
-use Rattle.calvin_types.proofs.key_set.place_of.Given as goal
+use Rattle.calvin_types.proofs.key_set.free_place.Given as goal
 
 -- each key so far is below the key
 abbrev pub invariant-loop-i : goal.invariant-loop-i
