@@ -17,7 +17,7 @@ use Rattle.calvin_types.specs.Keys.{key_cmp}
 use Rattle.calvin_types.specs.KeyOrder.{key_cmp_exact, key_cmp_total}
 use Rattle.calvin_types.proofs.Risings.{less}
 use Rattle.calvin_app.specs.Entries.{rising}
-use Rattle.calvin_app.specs.Places.{IsMissingAt}
+use Rattle.calvin_app.specs.EntryPlaces.{IsMissingAt}
 
 holds : (b : Bool) → T b → b ≡ true
 holds true h = refl

@@ -13,7 +13,7 @@ use Rattle.std.specs.List.{insert}
 use Rattle.std.proofs.Math.ListN.{set}
 use Rattle.std.proofs.lemmas.List.{drop_all}
 use Rattle.std.proofs.lemmas.Option.{slice_get_within}
-use Rattle.calvin_app.specs.Places.{IsAt, IsMissingAt}
+use Rattle.calvin_app.specs.EntryPlaces.{IsAt, IsMissingAt}
 use Rattle.calvin_types.proofs.Fews.{drop_at, take_at}
 use Rattle.calvin_types.specs.SameKeys.{equal_keys}
 

@@ -7,7 +7,7 @@ use Rattle.calvin_types.specs.Keys.{has}
 use Rattle.calvin_types.proofs.Fews.{drop_at, take_at}
 use Rattle.calvin_types.specs.SameKeys.{equal_keys}
 use Rattle.calvin_app.specs.Writing.{with_write, keys_of}
-use Rattle.calvin_app.specs.Places.{IsUnwritten, IsWrittenAt}
+use Rattle.calvin_app.specs.EntryPlaces.{IsUnwritten, IsWrittenAt}
 use Rattle.calvin_app.proofs.Puts.{equal_keys-is, set_is}
 
 module _ {Row : Type 0} (k : Key) (ws : List (Key × Row)) (i : ℕ) (w : Key × Row) (here : slice_get ws i ≡ Some w)

@@ -1,9 +1,9 @@
 pub mod Entries
+pub mod EntryPlaces
 pub mod Follow
 pub mod Kv
 pub mod KvExact
 pub mod Meaning
-pub mod Places
 pub mod Rows
 pub mod Serial
 pub mod Writing

@@ -1,6 +1,6 @@
 //! The rows that a request writes.
 ghost use Rattle.std.specs.Prelude.{◌≡◌, [], ◌∷◌, ◌++◌, ◌<◌, ◌≤◌, ◌↔◌, true, false, length, slice_get, OnOk, OnErr, IsErrOf, IsOkUnless, MatchOption};
-ghost use Rattle.calvin_app.specs.Places.{IsUnwritten, IsWrittenAt};
+ghost use Rattle.calvin_app.specs.EntryPlaces.{IsUnwritten, IsWrittenAt};
 ghost use Rattle.calvin_types.specs.Keys.{has, are_distinct};
 ghost use Rattle.calvin_app.specs.Writing.{keys_of, with_write};
 

@@ -1,7 +1,7 @@
 //! A second keeper, for tests: the pairs in one list, by ascending key.
 ghost use Rattle.std.specs.Prelude.{◌≡◌, ◌+◌, ◌≤◌, IfOk, MatchResult};
 ghost use Rattle.std.specs.FinMap as map;
-ghost use Rattle.calvin_app.specs.Places.{IsAt, IsMissingAt};
+ghost use Rattle.calvin_app.specs.EntryPlaces.{IsAt, IsMissingAt};
 
 use crate::{Rows, Snapshot};
 use calvin_app::Writes;

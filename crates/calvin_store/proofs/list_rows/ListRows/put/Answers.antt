@@ -3,7 +3,7 @@ use Rattle.std.specs.List.{insert}
 use Rattle.std.proofs.lemmas.List.Edits.{length-insert}
 use Rattle.std.proofs.Math.ListN.{set, length-set}
 use Rattle.std.specs.FinMap as map
-use Rattle.calvin_app.specs.Places.{IsAt, IsMissingAt}
+use Rattle.calvin_app.specs.EntryPlaces.{IsAt, IsMissingAt}
 use Rattle.calvin_app.specs.Entries.{rising, shown, rising-put, shown-put}
 use Rattle.calvin_store.proofs.NewKeys.{put_fits, put_keeps}
 use Rattle.calvin_store.proofs.list_rows.ListRows.put.Given.{Over}
