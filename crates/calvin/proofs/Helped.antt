@@ -21,6 +21,7 @@ use Rattle.clap.specs.declared.error.kind.ErrorKind.{ErrorKind}
 use Rattle.clap.specs.declared.error.kind.ErrorKind.TheVariants.{DisplayHelp}
 use Rattle.clap.specs.declared.builder.value_parser.ValueParser.{ValueParser}
 use Rattle.calvin.specs.Line.{calvin, IsSerialLine, IsHelpLine, IsBadLine, HasHelpWord}
+use Rattle.calvin.proofs.Named.{is_named_line}
 
 -- where help is among the kinds, it is the only one
 abbrev Alone : Kinds → Type 0
@@ -249,4 +250,4 @@ is_alone words lacks =
     (entered_alone (walk top.rules names nothing_held args).stopped)
 
 pub is_covered : (words : List Text) → ¬ HasHelpWord words → ¬ IsSerialLine words → ¬ IsHelpLine words → IsBadLine words
-is_covered words lacks taken helped = (taken, λ among. helped (is_alone words lacks among))
+is_covered words lacks serial helped = (λ taken. serial (taken, is_named_line words taken), λ among. helped (is_alone words lacks among))

@@ -8,7 +8,7 @@ use Rattle.clap.specs.Simple.{Shape, argument_words, built, entered, names_of}
 use Rattle.clap.specs.Faults.{check_fault, defaults_fault, entered_fault, fault_of, other_fault, settle_fault, turn_fault, walk_fault, word_fault}
 use Rattle.clap.specs.Walk.{Held, Names, Outcome, Row, Rule, Step, Text, Waiting, Walk, after_flag, after_step, answers_to, bundle, done, finished, idle, long_met, arg_by_long, long_or_other, next, nothing_held, option, plain, plain_word, positional, refused, settled, short_or_plain, subcommand, subcommand_or_other, to_positional, trailing, value, waits, walk, walk_from, walked, word_met, arg_by_index}
 use Rattle.clap.specs.declared.error.kind.ErrorKind.{ErrorKind}
-use Rattle.calvin.specs.Line.{calvin, NamesSerial}
+use Rattle.calvin.specs.Line.{calvin, IsTaken, NamesSerial, IsSerialLine}
 
 -- the command as clap builds it
 abbrev top : Shape
@@ -134,3 +134,6 @@ is_named_line words none =
     let after_settling = second_empty (settle_fault top.rules top.args_override_self end.held) _ after_entry in
     let checked = second_empty (defaults_fault (settled top.rules end.held).rows top.rules) _ after_settling in
     entered_named end.stopped (finished top.rules end.held) (walk_stops args (walk_from nothing_held) tt walked_well) checked
+
+pub is_taken_line : (words : List Text) → IsTaken words → IsSerialLine words
+is_taken_line words taken = (taken, is_named_line words taken)

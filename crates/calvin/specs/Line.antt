@@ -1,11 +1,12 @@
 -- Which command lines ask for what.
 --     calvin      the program's command line, as clap sees it
---     IsSerialLine words      clap takes the words
+--     IsTaken words      clap takes the words
+--     NamesSerial words      as clap reads them, the words name the subcommand `serial`
+--     IsSerialLine words      clap takes the words, and reads that they name the subcommand `serial`
 --     IsHelpLine words      clap answers the words with help
 --     IsBadLine words      clap refuses the words, and not with help
 --     HasHelpWord words      `help` stands among the words after the program's name
 --     IsPlainSerialLine words      the words are the program's name and `serial`
---     NamesSerial words      as clap reads them, the words name the subcommand `serial`
 --     IsRun wish      the serial run is asked for
 --     IsSerial wish      the serial run is asked for, unless memory ran out
 --     IsHelp wish      help is asked for, unless memory ran out
@@ -25,8 +26,16 @@ calvin = let plain = new_app (codes "calvin") in
     with_subcommand (record plain { top = record plain.top { subcommand_required = true } }) (new_app (codes "serial")).top
 
 -- clap has no error for the words
+abbrev pub IsTaken : List (List ℕ) → Type 0
+IsTaken words = fault_of calvin words ≡ []
+
+-- as clap reads them, the words name the subcommand `serial`
+abbrev pub NamesSerial : List (List ℕ) → Type 0
+NamesSerial words = option_map (λ s. s.0) (subcommand_of calvin words) ≡ Some (codes "serial")
+
+-- clap takes the words, and they name the subcommand
 abbrev pub IsSerialLine : List (List ℕ) → Type 0
-IsSerialLine words = fault_of calvin words ≡ []
+IsSerialLine words = IsTaken words × NamesSerial words
 
 -- help is all that clap has for the words
 abbrev pub IsHelpLine : List (List ℕ) → Type 0
@@ -43,10 +52,6 @@ HasHelpWord words = Contains (drop 1 words) (codes "help")
 -- the words of a line are the program's name and `serial`
 abbrev pub IsPlainSerialLine : List (List ℕ) → Type 0
 IsPlainSerialLine words = (program : List ℕ) × (words ≡ program ∷ codes "serial" ∷ [])
-
--- as clap reads them, the words name the subcommand `serial`
-abbrev pub NamesSerial : List (List ℕ) → Type 0
-NamesSerial words = option_map (λ s. s.0) (subcommand_of calvin words) ≡ Some (codes "serial")
 
 -- it is the serial run that is asked for
 abbrev pub IsRun : Result Wish Refusal → Type 0

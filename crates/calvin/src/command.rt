@@ -1,12 +1,12 @@
 //! The command line, and how a command ends.
 
-ghost use Rattle.std.specs.Prelude.{◌≡◌, ◌≢◌, ◌+◌, ◌↔◌, map, codes, IfOk, IfSome, IsErr, IsTrue, Some, ◌⊎◌};
-ghost use Rattle.std.specs.Io.KnownBytes.{Appends};
+ghost use Rattle.std.specs.Prelude.{◌≡◌, ◌≢◌, ◌+◌, ◌↔◌, map, codes, IfOk, IsTrue, Some, ◌⊎◌};
 ghost use Rattle.clap.specs.Words.{app_of, subcommand_name_of};
-ghost use Rattle.calvin.specs.Line.{calvin, IsSerialLine, IsHelpLine, IsBadLine, HasHelpWord, IsPlainSerialLine, NamesSerial, IsRun, IsSerial, IsHelp, IsRefused};
 ghost use Rattle.calvin_edge.specs.Complaints.{complaint};
-ghost use Rattle.calvin_serial.specs.Engine.{serial_text, HasText, HasBeginning};
-ghost use Rattle.calvin.specs.Statuses.{IsStatus, TellsRefusal};
+ghost use Rattle.calvin_serial.specs.Engine.{serial_text};
+ghost use Rattle.calvin.specs.Ends.{Tells, LeavesDevices, RunsEngine};
+ghost use Rattle.calvin.specs.Line.{calvin, IsTaken, IsSerialLine, IsHelpLine, IsBadLine, HasHelpWord, IsPlainSerialLine, IsRun, IsSerial, IsHelp, IsRefused};
+ghost use Rattle.calvin.specs.Statuses.{IsStatus};
 
 use crate::ending::{end_with, refuse_line};
 use calvin_edge::{Sink, Source, write_all};
@@ -106,6 +106,7 @@ fn parse<'a, W: AsStr>(alloc: Global, words: &'a [W]) -> Result<Wish, Refusal>
 }
 
 /// Runs the engine `serial`, tells a fault, and answers the status.
+#[tactic(auto, using(crate::proofs::Endings::serial_status))]
 fn run_serial<S: Source, K: Sink, E: Sink>(
     alloc: Global,
     input: &mut S,
@@ -113,31 +114,26 @@ fn run_serial<S: Source, K: Sink, E: Sink>(
     error: &mut E,
 ) -> u8
     ensures statuses { IsStatus result }
-    ensures silent { result ≡ 0 → error.new ≡ error.old }
-    ensures written { result ≡ 0 → IfSome (S.left input.old) (λ bytes. HasText (serial_text bytes)
-        (λ text. Appends (K.taken output.old) (K.taken output.new) text)) }
-    ensures refused { result ≡ 2 → IfSome (S.left input.old) (λ bytes. IsErr (serial_text bytes)) }
-    ensures failed { result ≡ 5 → (S.failures input.new ≡ S.failures input.old + 1)
-        ⊎ (K.failures output.new ≡ K.failures output.old + 1) }
-    ensures read_well { result ≢ 5 → S.failures input.new ≡ S.failures input.old }
-    ensures wrote_well { result ≢ 5 → K.failures output.new ≡ K.failures output.old }
-    ensures one_device { K.failures output.new ≡ K.failures output.old + 1
-        → S.failures input.new ≡ S.failures input.old }
-    ensures untouched { (result ≡ 2) ⊎ (result ≡ 4) → output.new ≡ output.old }
-    ensures unread { S.failures input.new ≡ S.failures input.old + 1 → output.new ≡ output.old }
-    ensures beginning { K.failures output.new ≡ K.failures output.old + 1
-        → IfSome (S.left input.old) (λ bytes.
-        HasBeginning (serial_text bytes) (K.taken output.old) (K.taken output.new)) }
-    ensures told_refusal { result ≡ 2 → E.failures error.new ≡ E.failures error.old
-        → TellsRefusal (S.left input.old) (E.taken error.old) (E.taken error.new) }
-    ensures told_memory { result ≡ 4 → E.failures error.new ≡ E.failures error.old
-        → Appends (E.taken error.old) (E.taken error.new) (complaint Fault.OutOfMemory) }
-    ensures told_reading { S.failures input.new ≡ S.failures input.old + 1
-        → E.failures error.new ≡ E.failures error.old
-        → Appends (E.taken error.old) (E.taken error.new) (complaint Fault.ReadFailed) }
-    ensures told_writing { K.failures output.new ≡ K.failures output.old + 1
-        → E.failures error.new ≡ E.failures error.old
-        → Appends (E.taken error.old) (E.taken error.new) (complaint Fault.WriteFailed) }
+    ensures devices { LeavesDevices
+        (record {
+          left = S.left;
+          read_failures = S.failures;
+          taken = K.taken;
+          write_failures = K.failures;
+          told = E.taken;
+          tell_failures = E.failures;
+        })
+        input.old input.new output.old output.new error.old error.new result }
+    ensures serial { RunsEngine
+        (record {
+          left = S.left;
+          read_failures = S.failures;
+          taken = K.taken;
+          write_failures = K.failures;
+          told = E.taken;
+          tell_failures = E.failures;
+        })
+        input.old input.new output.old output.new error.old error.new result serial_text }
 {
     match serial(alloc, input, output) {
         Ok(()) => 0,
@@ -147,7 +143,7 @@ fn run_serial<S: Source, K: Sink, E: Sink>(
 
 /// Runs a command line, and answers its status: 0 where all went well, 2 where the line or the script is refused, 4 for
 /// want of memory, 5 where a device failed. The line on standard error may fail to be written; the status stays.
-#[tactic(auto, using(crate::proofs::Named::is_named_line, crate::proofs::Words::is_plain_line, crate::proofs::Helped::is_covered))]
+#[tactic(auto, using(crate::proofs::Named::is_taken_line, crate::proofs::Words::is_plain_line, crate::proofs::Helped::is_covered))]
 pub fn command<W: AsStr, S: Source, K: Sink, E: Sink>(
     alloc: Global,
     words: &[W],
@@ -156,8 +152,8 @@ pub fn command<W: AsStr, S: Source, K: Sink, E: Sink>(
     error: &mut E,
 ) -> u8
     ensures statuses { IsStatus result }
-    // A line that clap takes names `serial`, and `calvin serial` is such a line.
-    ensures named { IsSerialLine (map W.text words.now) → NamesSerial (map W.text words.now) }
+    // A line that clap takes is for `serial`, and `calvin serial` is such a line.
+    ensures taken { IsTaken (map W.text words.now) → IsSerialLine (map W.text words.now) }
     ensures plain { IsPlainSerialLine (map W.text words.now) → IsSerialLine (map W.text words.now) }
     // A line without the word `help` is such a line, a call for help or a bad line.
     ensures covered { ¬ HasHelpWord (map W.text words.now) → ¬ IsSerialLine (map W.text words.now)
@@ -167,45 +163,31 @@ pub fn command<W: AsStr, S: Source, K: Sink, E: Sink>(
     // A line that asks for help isn't refused, and a bad line is, unless memory runs out.
     ensures help { IsHelpLine (map W.text words.now) → result ≢ 2 }
     ensures bad { IsBadLine (map W.text words.now) → (result ≡ 2) ⊎ (result ≡ 4) }
-    // Where all went well, nothing is said.
-    ensures silent { result ≡ 0 → error.new ≡ error.old }
-    // `serial` that ends well wrote the text for the script.
-    ensures written { IsSerialLine (map W.text words.now) → result ≡ 0
-        → IfSome (S.left input.old) (λ bytes. HasText (serial_text bytes)
-        (λ text. Appends (K.taken output.old) (K.taken output.new) text)) }
-    // It ends with 2 only where the script is refused.
-    ensures refused { IsSerialLine (map W.text words.now) → result ≡ 2
-        → IfSome (S.left input.old) (λ bytes. IsErr (serial_text bytes)) }
-    // Status 5 says that the input or the output failed, once and not both, and no other status does.
-    ensures failed { result ≡ 5 → (S.failures input.new ≡ S.failures input.old + 1)
-        ⊎ (K.failures output.new ≡ K.failures output.old + 1) }
-    ensures read_well { result ≢ 5 → S.failures input.new ≡ S.failures input.old }
-    ensures wrote_well { result ≢ 5 → K.failures output.new ≡ K.failures output.old }
-    ensures one_device { K.failures output.new ≡ K.failures output.old + 1
-        → S.failures input.new ≡ S.failures input.old }
-    // Nothing is written where the line or the script is refused, where memory runs out and where reading fails.
-    ensures untouched { (result ≡ 2) ⊎ (result ≡ 4) → output.new ≡ output.old }
-    ensures unread { S.failures input.new ≡ S.failures input.old + 1 → output.new ≡ output.old }
-    // Where writing the answers fails, a proper beginning of the text is out.
-    ensures beginning { IsSerialLine (map W.text words.now)
-        → K.failures output.new ≡ K.failures output.old + 1
-        → IfSome (S.left input.old) (λ bytes.
-        HasBeginning (serial_text bytes) (K.taken output.old) (K.taken output.new)) }
-    // Standard error is told why, unless it fails itself.
     ensures told_bad_line { ¬ IsSerialLine (map W.text words.now) → result ≡ 2
-        → E.failures error.new ≡ E.failures error.old
-        → Appends (E.taken error.old) (E.taken error.new) (codes "calvin: bad line\n") }
-    ensures told_refusal { IsSerialLine (map W.text words.now) → result ≡ 2
-        → E.failures error.new ≡ E.failures error.old
-        → TellsRefusal (S.left input.old) (E.taken error.old) (E.taken error.new) }
-    ensures told_memory { result ≡ 4 → E.failures error.new ≡ E.failures error.old
-        → Appends (E.taken error.old) (E.taken error.new) (complaint Fault.OutOfMemory) }
-    ensures told_reading { S.failures input.new ≡ S.failures input.old + 1
-        → E.failures error.new ≡ E.failures error.old
-        → Appends (E.taken error.old) (E.taken error.new) (complaint Fault.ReadFailed) }
-    ensures told_writing { K.failures output.new ≡ K.failures output.old + 1
-        → E.failures error.new ≡ E.failures error.old
-        → Appends (E.taken error.old) (E.taken error.new) (complaint Fault.WriteFailed) }
+        → Tells (E.taken error.old) (E.taken error.new) (E.failures error.old) (E.failures error.new) (codes "calvin: bad line\n") }
+    // Which device failed, what is left as it was, and what standard error is told.
+    ensures devices { LeavesDevices
+        (record {
+          left = S.left;
+          read_failures = S.failures;
+          taken = K.taken;
+          write_failures = K.failures;
+          told = E.taken;
+          tell_failures = E.failures;
+        })
+        input.old input.new output.old output.new error.old error.new result }
+    // `serial` writes the text for the script, or refuses it.
+    ensures serial { IsSerialLine (map W.text words.now)
+        → RunsEngine
+        (record {
+          left = S.left;
+          read_failures = S.failures;
+          taken = K.taken;
+          write_failures = K.failures;
+          told = E.taken;
+          tell_failures = E.failures;
+        })
+        input.old input.new output.old output.new error.old error.new result serial_text }
 {
     match parse(alloc, words) {
         Ok(Wish::Serial) => run_serial(alloc, input, output, error),
@@ -222,10 +204,8 @@ fn print_help<K: Sink, E: Sink>(alloc: Global, help: &Error, output: &mut K, err
     ensures failed { result ≡ 5 → K.failures output.new ≡ K.failures output.old + 1 }
     ensures wrote_well { result ≢ 5 → K.failures output.new ≡ K.failures output.old }
     ensures untouched { result ≡ 4 → output.new ≡ output.old }
-    ensures told_memory { result ≡ 4 → E.failures error.new ≡ E.failures error.old
-        → Appends (E.taken error.old) (E.taken error.new) (complaint Fault.OutOfMemory) }
-    ensures told_writing { result ≡ 5 → E.failures error.new ≡ E.failures error.old
-        → Appends (E.taken error.old) (E.taken error.new) (complaint Fault.WriteFailed) }
+    ensures told_memory { result ≡ 4 → Tells (E.taken error.old) (E.taken error.new) (E.failures error.old) (E.failures error.new) (complaint Fault.OutOfMemory) }
+    ensures told_writing { result ≡ 5 → Tells (E.taken error.old) (E.taken error.new) (E.failures error.old) (E.failures error.new) (complaint Fault.WriteFailed) }
 {
     match help.to_string(alloc) {
         Ok(text) => match write_all(output, text.as_bytes()) {

@@ -1,8 +1,8 @@
 //! How a command ends: its status, and the line on standard error.
 ghost use Rattle.std.specs.Prelude.{◌≡◌, ◌≢◌, ◌↔◌, codes};
-ghost use Rattle.std.specs.Io.KnownBytes.{Appends};
 ghost use Rattle.calvin_edge.specs.Complaints.{complaint};
-ghost use Rattle.calvin.specs.Statuses.{status_of, IsStatus};
+ghost use Rattle.calvin.specs.Ends.{Tells};
+ghost use Rattle.calvin.specs.Statuses.{status_of};
 
 use calvin_edge::{Sink, complaint, write_all};
 use calvin_types::Fault;
@@ -15,6 +15,7 @@ fn status_of(fault: Fault) -> u8
     match fault {
         Fault::OutOfMemory => 4,
         Fault::ReadFailed | Fault::WriteFailed => 5,
+        Fault::NotExpected | Fault::Closed | Fault::NoRun | Fault::NotEnded => 3,
         _ => 2,
     }
 }
@@ -22,9 +23,7 @@ fn status_of(fault: Fault) -> u8
 /// Tells a fault, and answers the status.
 pub(crate) fn end_with<E: Sink>(fault: Fault, error: &mut E) -> u8
     ensures status { result ≡ status_of fault }
-    ensures ends { IsStatus result }
-    ensures told { E.failures error.new ≡ E.failures error.old
-        → Appends (E.taken error.old) (E.taken error.new) (complaint fault) }
+    ensures told { Tells (E.taken error.old) (E.taken error.new) (E.failures error.old) (E.failures error.new) (complaint fault) }
 {
     let _ = write_all(error, complaint(fault).as_bytes());
     status_of(fault)
@@ -33,8 +32,7 @@ pub(crate) fn end_with<E: Sink>(fault: Fault, error: &mut E) -> u8
 /// Tells that the line is bad, and answers the status.
 pub(crate) fn refuse_line<E: Sink>(error: &mut E) -> u8
     ensures status { result ≡ 2 }
-    ensures told { E.failures error.new ≡ E.failures error.old
-        → Appends (E.taken error.old) (E.taken error.new) (codes "calvin: bad line\n") }
+    ensures told { Tells (E.taken error.old) (E.taken error.new) (E.failures error.old) (E.failures error.new) (codes "calvin: bad line\n") }
 {
     let _ = write_all(error, "calvin: bad line\n".as_bytes());
     2
@@ -45,10 +43,8 @@ pub(crate) fn refuse_line<E: Sink>(error: &mut E) -> u8
 pub(crate) fn refuse_words<E: Sink>(why: ErrorKind, error: &mut E) -> u8
     ensures memory { (result ≡ 4) ↔ (why ≡ ErrorKind.OutOfMemory) }
     ensures bad { (result ≡ 2) ↔ (why ≢ ErrorKind.OutOfMemory) }
-    ensures told_memory { result ≡ 4 → E.failures error.new ≡ E.failures error.old
-        → Appends (E.taken error.old) (E.taken error.new) (complaint Fault.OutOfMemory) }
-    ensures told_bad_line { result ≡ 2 → E.failures error.new ≡ E.failures error.old
-        → Appends (E.taken error.old) (E.taken error.new) (codes "calvin: bad line\n") }
+    ensures told_memory { result ≡ 4 → Tells (E.taken error.old) (E.taken error.new) (E.failures error.old) (E.failures error.new) (complaint Fault.OutOfMemory) }
+    ensures told_bad_line { result ≡ 2 → Tells (E.taken error.old) (E.taken error.new) (E.failures error.old) (E.failures error.new) (codes "calvin: bad line\n") }
 {
     match why {
         ErrorKind::OutOfMemory => end_with(Fault::OutOfMemory, error),

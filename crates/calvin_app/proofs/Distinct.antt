@@ -5,6 +5,7 @@ use Rattle.std.specs.Cmp.{Equal-is}
 use Rattle.calvin_types.specs.declared.key.Key.{Key}
 use Rattle.calvin_types.specs.Keys.{key_cmp, same_key, has, are_distinct}
 use Rattle.calvin_types.specs.KeyOrder.{key_cmp_exact}
+use Rattle.std.proofs.lemmas.List.{map-append}
 use Rattle.calvin_types.proofs.KeySets.{distinct-push}
 use Rattle.calvin_app.specs.Writing.{keys_of, with_write}
 
@@ -28,3 +29,7 @@ module _ {Row : Type 0} (k : Key) (r : Row) where
       go : (b : Bool) → has (keys_of ws) k ≡ b → are_distinct (cond b (keys_of ws) (keys_of ws ++ k ∷ [])) ≡ true
       go true is = once
       go false is = distinct-push (keys_of ws) k once is
+
+  -- and with one more, whose key isn't written yet, at the end
+  pub distinct_push : (ws : List (Key × Row)) → are_distinct (keys_of ws) ≡ true → has (keys_of ws) k ≡ false → are_distinct (keys_of (ws ++ (k, r) ∷ [])) ≡ true
+  distinct_push ws once missing = ap are_distinct (map-append (λ (w : Key × Row). w.0) ws ((k, r) ∷ [])) ∙ distinct-push (keys_of ws) k once missing

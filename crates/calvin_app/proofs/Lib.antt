@@ -5,7 +5,7 @@ pub mod Fresh
 pub mod Puts
 pub mod Results
 pub mod RowTables
-pub mod Runs
+pub mod StoreLaws
 pub mod Values
 pub mod Views
 pub mod Written

@@ -15,6 +15,7 @@ use Rattle.std.proofs.lemmas.List.{length-take}
 use Rattle.calvin_types.specs.declared.key.Key.{Key}
 use Rattle.calvin_types.specs.declared.key_set.Sets.{Sets}
 use Rattle.calvin_types.specs.Keys.{has}
+use Rattle.calvin_types.specs.declared.limits.TheConstants.{MOST_KEYS}
 use Rattle.calvin_app.specs.declared.kv.KvRequest.{KvRequest}
 use Rattle.calvin_app.specs.declared.kv.KvRequest.TheVariants.{Put, Get, Add}
 use Rattle.calvin_app.specs.declared.kv.KvReply.{KvReply}
@@ -28,7 +29,7 @@ key_of id = record { table = 0; id = id }
 
 -- the keys that a get asks for
 abbrev pub asked : List Key → List Key
-asked keys = take 16 (filter (λ k. k.table == 0) keys)
+asked keys = take MOST_KEYS (filter (λ k. k.table == 0) keys)
 
 -- the keys of a request
 abbrev pub needs_of : KvRequest → Rows ℕ → Sets

@@ -6,4 +6,5 @@ pub mod KvExact
 pub mod Meaning
 pub mod Rows
 pub mod Serial
+pub mod Stores
 pub mod Writing

@@ -9,6 +9,7 @@ use Rattle.std.specs.Prelude.{◌≡◌, ℕ, ◌≤◌, Bool, true, false, List
 use Rattle.calvin_types.specs.declared.key.Key.{Key}
 use Rattle.calvin_types.specs.declared.key_set.Sets.{Sets}
 use Rattle.calvin_types.specs.Keys.{has}
+use Rattle.calvin_types.specs.declared.limits.TheConstants.{MOST_KEYS}
 use Rattle.calvin_app.specs.Rows.{Rows, view}
 
 -- the two definitions of an application, the same for all values of its type
@@ -41,7 +42,7 @@ pub record IsLawful {Args Row Reply : Type 0} (m : Meaning Args Row Reply) (depe
   -- each set has at most so many keys, sixteen at most, and no table above
   pub bounded_reads : (args : Args) (v : Rows Row) → IsBounded most_keys top_table (m.needs args v).reads
   pub bounded_writes : (args : Args) (v : Rows Row) → IsBounded most_keys top_table (m.needs args v).writes
-  pub at_most_sixteen : most_keys ≤ 16
+  pub at_most_sixteen : most_keys ≤ MOST_KEYS
 
 -- equal is the same
 abbrev pub IsExact : {T : Type 0} → (T → T → Bool) → Type 0

@@ -3,6 +3,8 @@ ghost use Rattle.std.specs.Prelude.{◌≡◌, ℕ, Bool};
 ghost use Rattle.std.specs.Mem.{FitsInMemory};
 ghost use Rattle.calvin_app.specs.Meaning.{Meaning, IsLawful, IsExact};
 ghost use Rattle.calvin_app.specs.contracts.view.View.{the_row as the_view_row};
+ghost use Rattle.calvin_app.specs.contracts.job.Job.{the_row as the_job_row};
+ghost use Rattle.calvin_app.specs.contracts.job.Work.{the_row as the_work_row};
 ghost use Rattle.calvin_app.specs.declared.answer.Answer.TheVariants.{Reply};
 ghost use Rattle.calvin_types.specs.SameKeys.{same_sets};
 
@@ -83,6 +85,11 @@ pub trait App {
 
     /// Sixteen rows fit in memory.
     ghost rows_fit: { FitsInMemory (the_view_row Self.Row.row) };
+
+    /// So do a request with what it sees, and these with what came of it.
+    ghost job_fits: { FitsInMemory (the_job_row Self.Args.row Self.Row.row) };
+
+    ghost work_fits: { FitsInMemory (the_work_row Self.Args.row Self.Row.row Self.Reply.row) };
 
     /// Arguments, rows and replies that compare equal are the same.
     ghost args_exact: { IsExact Self.Args.eq };

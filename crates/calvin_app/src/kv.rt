@@ -28,21 +28,27 @@ pub enum KvRequest {
 }
 
 impl KvRequest {
-    /// The keys that the request reads and writes, whatever the rows are.
-    pub fn needs(&self) -> Sets
-        ensures { (rows : Rows ℕ) → result ≡ kv.needs self.now rows }
+    /// Adds the keys that the request reads and writes on these rows to sets that have none yet.
+    #[inline(always)]
+    pub fn add_needs(&self, _view: &View<u64>, sets: &mut Sets)
+        requires { sets.old ≡ record { reads = []; writes = [] } }
+        ensures { sets.new ≡ kv.needs self.now _view.now }
     {
-        let mut sets = Sets {
-            reads: KeySet::new(),
-            writes: KeySet::new(),
-        };
-        self.add_needs(&mut sets);
-        sets
+        self.add_keys(sets);
     }
 
-    /// Adds the keys that the request reads and writes, whatever the rows are, to sets that have none yet.
+    /// Adds the keys that the request reads and writes where no row is known to sets that have none yet.
     #[inline(always)]
-    pub fn add_needs(&self, sets: &mut Sets)
+    pub fn add_first_needs(&self, sets: &mut Sets)
+        requires { sets.old ≡ record { reads = []; writes = [] } }
+        ensures { sets.new ≡ kv.needs self.now finmap.empty }
+    {
+        self.add_keys(sets);
+    }
+
+    /// Adds the keys that the request names, which are those that it needs whatever the rows are.
+    #[inline(always)]
+    fn add_keys(&self, sets: &mut Sets)
         requires { sets.old ≡ record { reads = []; writes = [] } }
         ensures { (rows : Rows ℕ) → sets.new ≡ kv.needs self.now rows }
     {
@@ -84,7 +90,7 @@ fn key_of(id: u64) -> Key
 /// Whether a get asks for all of the keys. They rise, so the last one is of the highest table.
 fn asks_for_all(keys: &KeySet) -> bool
     ensures all { result ≡ list_all (λ k. k.table == 0) keys.now }
-    ensures at_most { length keys.now ≤ 16 }
+    ensures at_most { length keys.now ≤ MOST_KEYS }
 {
     match keys.len() {
         0 => true,
@@ -228,8 +234,13 @@ impl App for Kv {
         false
     }
 
-    fn sets(&self, args: &KvRequest, _view: &View<u64>) -> Sets {
-        args.needs()
+    fn sets(&self, args: &KvRequest, view: &View<u64>) -> Sets {
+        let mut sets = Sets {
+            reads: KeySet::new(),
+            writes: KeySet::new(),
+        };
+        args.add_needs(view, &mut sets);
+        sets
     }
 
     fn needs_only(&self, args: &KvRequest, _view: &View<u64>, sets: &Sets) -> bool {
@@ -263,6 +274,10 @@ impl App for Kv {
     ghost lawful = { kv_lawful };
 
     ghost rows_fit = { lit< tt };
+
+    ghost job_fits = { lit< tt };
+
+    ghost work_fits = { lit< tt };
 
     ghost args_exact = { requests_exact };
 

@@ -4,6 +4,7 @@
 
 mod answer;
 mod app;
+mod job;
 mod kv;
 mod serial;
 mod table;
@@ -12,6 +13,7 @@ mod writes;
 
 pub use answer::Answer;
 pub use app::App;
+pub use job::{Job, Work};
 pub use kv::{Kv, KvReply, KvRequest};
 pub use serial::Serial;
 pub use table::Table;

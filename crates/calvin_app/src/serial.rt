@@ -1,9 +1,10 @@
 //! Requests run one at a time, on one undivided map: what every other run of them has to agree with (Thomson et al.
 //! 2012, section 3: the order of requests is fixed first, and execution is equivalent to running them serially in it).
 ghost use Rattle.calvin_app.specs.declared.answer.Answer.TheVariants.{Changed};
-ghost use Rattle.std.specs.Prelude.{◌≡◌, ◌≢◌, ◌≤◌, ℕ, length, take, IfOk, OnOk, OnErr, IsOkUnless};
+ghost use Rattle.std.specs.Prelude.{◌≡◌, ◌≢◌, IfOk, OnOk, OnErr, IsOkUnless, [], IsOk};
 ghost use Rattle.std.specs.FinMap as map;
-ghost use Rattle.calvin_app.specs.Serial.{answer_one, after_one, serial};
+ghost use Rattle.calvin_app.specs.Rows.{view};
+ghost use Rattle.calvin_app.specs.Serial.{answer_one, after_one, writes_on};
 
 use crate::answer::Answer;
 use crate::app::App;
@@ -51,7 +52,8 @@ impl<A: App> Serial<A> {
     }
 
     /// Runs one request: it is answered `Changed` where its declared sets aren't, key for key, those that it needs on
-    /// the rows of its declared reads. Refused for want of memory alone, and then nothing has changed.
+    /// the rows of its declared reads. Refused for want of memory alone, where it writes
+    /// something, and then nothing has changed.
     #[tactic(auto, unfolding(crate::specs::Serial::answer_on, crate::specs::Serial::writes_on))]
     pub fn apply(&mut self, txn: &Txn<A::Args>) -> Result<Answer<A::Reply>, Fault>
         ensures answer { IfOk result (λ answer. answer ≡ answer_one A.meaning txn.now self.old) }
@@ -61,6 +63,7 @@ impl<A: App> Serial<A> {
         // A request with the sets that it needs of all rows is run.
         ensures fresh { A.meaning.needs txn.now.args self.old ≡ txn.now.sets → result ≢ Ok Changed }
         ensures only { IsOkUnless result Fault.OutOfMemory }
+        ensures succeeds { writes_on A.meaning txn.now (view self.old txn.now.sets.reads) ≡ [] → IsOk result }
     {
         let mut seen = View::new();
         let mut answer = Answer::Changed;
@@ -85,6 +88,7 @@ impl<A: App> Serial<A> {
         // A request with the sets that it needs of all rows is run.
         ensures fresh { A.meaning.needs txn.now.args self.old ≡ txn.now.sets → OnOk result (answer.new ≢ Changed) }
         ensures only { IsOkUnless result Fault.OutOfMemory }
+        ensures succeeds { writes_on A.meaning txn.now (view self.old txn.now.sets.reads) ≡ [] → IsOk result }
     {
         seen.clear();
         self.rows.look_up(&txn.sets.reads, seen);
@@ -94,24 +98,5 @@ impl<A: App> Serial<A> {
         }
         let writes = self.app.run_into(&txn.args, seen, answer);
         self.rows.overwrite(&writes)
-    }
-
-    /// Runs requests one after another, and gives an answer for each. Refused for want of memory alone, and then the
-    /// requests of some beginning have been run and no others.
-    pub fn run(
-        &mut self,
-        alloc: Global,
-        txns: &[Txn<A::Args>],
-    ) -> Result<Vec<Answer<A::Reply>>, Fault>
-        ensures answers { IfOk result (λ answers. answers.items ≡ (serial A.meaning txns.now self.old).1) }
-        ensures ok { OnOk result (self.new ≡ (serial A.meaning txns.now self.old).0) }
-        ensures err { OnErr result ((n : ℕ) × (n ≤ length txns.now) × (self.new ≡ (serial A.meaning (take n txns.now) self.old).0)) }
-        ensures only { IsOkUnless result Fault.OutOfMemory }
-    {
-        let mut answers = Vec::with_capacity(alloc, txns.len())?;
-        for txn in txns {
-            answers.push(self.apply(txn)?)?;
-        }
-        Ok(answers)
     }
 }

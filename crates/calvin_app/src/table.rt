@@ -1,5 +1,5 @@
 //! All rows, in memory.
-ghost use Rattle.std.specs.Prelude.{◌≡◌, OnOk, OnErr, IsOkUnless};
+ghost use Rattle.std.specs.Prelude.{◌≡◌, [], IsOk, OnOk, OnErr, IsOkUnless};
 ghost use Rattle.std.specs.FinMap as map;
 ghost use Rattle.calvin_app.specs.Rows.{view, overwritten};
 
@@ -59,11 +59,13 @@ impl<Row: Copy> Table<Row> {
         }
     }
 
-    /// Overwrites rows, all of them or none: refused for want of memory before the first is written.
+    /// Overwrites rows, all of them or none: refused for want of memory before the first is written, and never where
+    /// there is none to write.
     pub fn overwrite(&mut self, writes: &Writes<Row>) -> Result<(), Fault>
         ensures ok { OnOk result (self.new ≡ overwritten self.old writes.now) }
         ensures err { OnErr result (self.new ≡ self.old) }
         ensures only { IsOkUnless result Fault.OutOfMemory }
+        ensures succeeds { writes.now ≡ [] → IsOk result }
     {
         self.rows.reserve(writes.len())?;
         for i in 0..writes.len() {

@@ -3,8 +3,8 @@ ghost use Rattle.std.specs.Prelude.{◌≡◌};
 
 mod follow;
 
-use crate::{Answer, App, Kv, KvReply, KvRequest, Serial, Table, View, Writes};
-use calvin_types::{Fault, Few, Key, KeySet, RequestId, Sets, Txn};
+use crate::{Answer, App, Job, Kv, KvReply, KvRequest, Serial, Table, View, Writes};
+use calvin_types::{Fault, Few, Key, KeySet, Place, RequestId, Sets, Txn};
 use std::alloc::Global;
 use std::test::Fail;
 
@@ -69,17 +69,6 @@ fn applied<A: App + Drop>(
     Ok((serial, answers))
 }
 
-/// Requests run in one call.
-fn run<A: App + Drop>(
-    alloc: Global,
-    app: A,
-    txns: &[Txn<A::Args>],
-) -> Result<(Serial<A>, Vec<Answer<A::Reply>>), Fault> {
-    let mut serial = Serial::new(alloc, app);
-    let answers = serial.run(alloc, txns)?;
-    Ok((serial, answers))
-}
-
 /// What an application says of itself and of a request on no rows.
 fn described<A: App>(app: &A, args: &A::Args) -> (usize, u8, bool, Sets) {
     let view = View::new();
@@ -96,15 +85,14 @@ fn is_reply(answer: &Answer<KvReply>, reply: KvReply) -> bool {
     *answer == Answer::Reply(reply)
 }
 
-/// Whether requests are told these replies, one by one and in one call.
+/// Whether requests are told these replies.
 fn are_told(alloc: Global, asked: &[KvRequest], want: &[KvReply]) -> Result<bool, Fault> {
     let txns = all_declared(alloc, asked)?;
-    let (_rows, one_by_one) = applied(alloc, Kv, &txns)?;
-    let (_same_rows, at_once) = run(alloc, Kv, &txns)?;
-    let alike = at_once.len() == want.len() && one_by_one == at_once;
+    let (_rows, answers) = applied(alloc, Kv, &txns)?;
+    let as_many = answers.len() == want.len();
     Ok(
-        alike
-            && at_once
+        as_many
+            && answers
                 .iter()
                 .zip(want)
                 .all(|(answer, &reply)| is_reply(answer, reply)),
@@ -154,7 +142,7 @@ fn rows_after_a_limit(rt: HostRuntime) -> Result<(), Fail> {
         KvRequest::Add(3, 5),
     ];
     let txns = all_declared(alloc, &asked)?;
-    let (serial, _answers) = run(alloc, Kv, &txns)?;
+    let (serial, _answers) = applied(alloc, Kv, &txns)?;
     for (id, want) in [(3, Some(5)), (4, Some(u64::MAX)), (1, None)] {
         assert_eq!(rt; serial.rows().get(&key(id)), want);
     }
@@ -307,6 +295,58 @@ fn views(rt: HostRuntime) -> Result<(), Fail> {
     Ok(())
 }
 
+/// A view of these rows of table 0.
+fn view_of(alloc: Global, rows: &[(u64, u64)]) -> Result<View<u64>, Fault> {
+    let mut table = Table::new(alloc);
+    let mut keys = KeySet::new();
+    for &(id, row) in rows {
+        table.overwrite(&Writes::of(key(id), row))?;
+        keys.insert(key(id))?;
+    }
+    let mut view = View::new();
+    table.look_up(&keys, &mut view);
+    Ok(view)
+}
+
+#[test]
+fn views_compared(rt: HostRuntime) -> Result<(), Fail> {
+    let alloc = rt.alloc();
+    let view = view_of(alloc, &[(9, 90), (2, 20)])?;
+    for (i, id) in [(0, 2), (1, 9)] {
+        assert!(rt; i < view.len());
+        assert!(rt; view.at(i) == (key(id), id * 10));
+    }
+    for (other, same) in [
+        ([(2, 20), (9, 90)].as_slice(), true),
+        (&[(2, 20)], false),
+        (&[(2, 20), (9, 91)], false),
+        (&[(2, 20), (8, 90)], false),
+        (&[], false),
+    ] {
+        assert!(rt; view.is_same(&view_of(alloc, other)?) == same, "{other:?}");
+    }
+    Ok(())
+}
+
+#[test]
+fn jobs_computed(rt: HostRuntime) -> Result<(), Fail> {
+    let place = Place { epoch: 4, n: 2 };
+    let view = view_of(rt.alloc(), &[(3, 10)])?;
+    let fresh = declared(KvRequest::Add(3, 5));
+    let stale = txn(KvRequest::Add(3, 5), set(&[3])?, set(&[3, 4])?);
+    for (txn, answer, written) in [
+        (fresh, Answer::Reply(KvReply::Value(15)), 1),
+        (stale, Answer::Changed, 0),
+    ] {
+        let work = Job { place, txn, view }.compute(&Kv);
+        assert!(rt; work.answer == answer);
+        assert_eq!(rt; work.writes.len(), written);
+        assert!(rt; work.job.place == place && work.job.txn == txn);
+        assert!(rt; work.job.view.is_same(&view));
+    }
+    Ok(())
+}
+
 #[test]
 fn views_from_a_place_on(rt: HostRuntime) -> Result<(), Fail> {
     let mut table = Table::new(rt.alloc());
@@ -409,32 +449,5 @@ fn refused_apply_changes_nothing(rt: HostRuntime) -> Result<(), Fail> {
         assert!(rt; !put_twice(&mut serial, id)?, "refused at {id}");
         assert!(rt; has_put(&serial, id + 1), "after {id}");
     }
-    Ok(())
-}
-
-/// The puts of `0..40`, each under itself.
-fn puts(alloc: Global) -> Result<Vec<Txn<KvRequest>>, Fault> {
-    let mut txns = Vec::new(alloc);
-    for id in 0..40u64 {
-        txns.push(declared(KvRequest::Put(id, id)))?;
-    }
-    Ok(txns)
-}
-
-// Where any one allocation fails, a run that it fails has run the requests of some beginning and no others.
-#[test]
-fn refused_run_has_run_a_beginning(rt: HostRuntime) -> Result<(), Fail> {
-    let alloc = rt.alloc();
-    let txns = puts(alloc).or_else(|_refused| puts(alloc))?;
-    let mut serial = Serial::new(alloc, Kv);
-    if let Err(fault) = serial.run(alloc, &txns) {
-        assert_eq!(rt; fault, Fault::OutOfMemory);
-        assert!(rt;
-            (0..40).any(|count| has_put(&serial, count)),
-            "some beginning"
-        );
-        serial.run(alloc, &txns)?;
-    }
-    assert!(rt; has_put(&serial, 40));
     Ok(())
 }

@@ -63,7 +63,7 @@ impl<Row: Copy> Writes<Row> {
     /// How many keys are written.
     pub fn len(&self) -> usize
         ensures len { result ≡ length self.now }
-        ensures at_most { length self.now ≤ 16 }
+        ensures at_most { length self.now ≤ MOST_KEYS }
         ensures distinct { are_distinct (keys_of self.now) ≡ true }
     {
         self.pairs.len()
@@ -83,7 +83,7 @@ impl<Row: Copy> Writes<Row> {
         ensures ok { OnOk result (self.new ≡ with_write key row self.old) }
         ensures err { OnErr result (self.new ≡ self.old) }
         ensures only { IsOkUnless result Fault.TooManyKeys }
-        ensures full { IsErrOf result Fault.TooManyKeys ↔ ((length self.old ≡ 16) × (has (keys_of self.old) key ≡ false)) }
+        ensures full { IsErrOf result Fault.TooManyKeys ↔ ((length self.old ≡ MOST_KEYS) × (has (keys_of self.old) key ≡ false)) }
     {
         match find_write(&self.pairs, key) {
             Some(i) => self.pairs.set(i, (key, row)),
@@ -95,6 +95,15 @@ impl<Row: Copy> Writes<Row> {
             }
         }
         Ok(())
+    }
+
+    /// Writes a row under a key that isn't written yet, of fewer than sixteen.
+    pub fn push(&mut self, key: Key, row: Row)
+        requires room { length self.old < MOST_KEYS }
+        requires absent { has (keys_of self.old) key ≡ false }
+        ensures { self.new ≡ self.old ++ (key, row) ∷ [] }
+    {
+        self.pairs.push((key, row));
     }
 }
 

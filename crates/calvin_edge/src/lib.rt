@@ -12,8 +12,6 @@ mod sink;
 mod source;
 mod streams;
 mod tally;
-#[cfg(test)]
-mod tests;
 mod writing;
 
 pub use complaints::complaint;

@@ -1,5 +1,5 @@
 -- Each event keeps what holds of every slot; and what a learner gives in it is chosen.
-use Rattle.std.proofs.Common.{◌≡◌, ℕ, zero, suc, ◌<◌, List, [], ◌++◌, length, get_or, set, replicate, inl, inr, ⊎_elim, refl, sym, ap, subst, arith, Option, Some, None}
+use Rattle.std.proofs.Common.{◌≡◌, ℕ, true, zero, suc, ◌<◌, List, [], ◌++◌, length, get_or, set, replicate, inl, inr, ⊎_elim, refl, sym, ap, subst, arith, Option, Some, None}
 use Rattle.std.specs.Prelude.{slice_get}
 use Rattle.std.specs.List.{Contains}
 use Rattle.std.proofs.lemmas.List.{get_or-set_same, get_or-set_other, length-set}
@@ -14,7 +14,7 @@ use Rattle.calvin_group.specs.declared.event.GroupEvent.{GroupEvent}
 use Rattle.calvin_group.specs.declared.event.GroupEvent.TheVariants.{Propose, Deliver, Restart}
 use Rattle.calvin_group.specs.declared.event.Outcome.{Outcome}
 use Rattle.calvin_group.specs.declared.event.Outcome.TheVariants.{Gave, Refused}
-use Rattle.calvin_group.specs.Groups.{GroupState, opening, packets_of, outcome_of, carry_out, at_replica, deliver, happens, TakesEffect, Step, Chosen}
+use Rattle.calvin_group.specs.Groups.{GroupState, opening, packets_of, outcome_of, carry_out, at_replica, deliver, happens, TakesEffect, grows, Step, Chosen}
 use Rattle.calvin_group.proofs.Packets.{sent_in, sent_more, sent_new, sent_cases, nothing_sent, said_by_packets, sent_as, packets_say}
 
 -- what a group shows of a slot
@@ -67,7 +67,7 @@ module _ {B : Type 0} (w : GroupState B) (kept : Kept w) where
   step_keeps event outcome after s =
       ⊎_elim
       (λ (e : (outcome, after) ≡ happens w event). subst Kept (sym (ap (λ y. y.1) e)) (happens_keeps event))
-      (λ (e : TakesEffect (happens w event).0 × ((outcome ≡ Refused OutOfMemory) × (after ≡ w))). subst Kept (sym e.1.1) kept)
+      (λ (e : TakesEffect (happens w event).0 × (grows w event ≡ true) × (outcome ≡ Refused OutOfMemory) × (after ≡ w)). subst Kept (sym e.3) kept)
       s
 
 -- ---- what is given
@@ -103,7 +103,7 @@ module _ {B : Type 0} (w : GroupState B) (kept : Kept w) (slot : Slot) (batch : 
   step_gives event after s =
       ⊎_elim
       (λ (e : (Gave slot batch, after) ≡ happens w event). happens_gives event (ap (λ y. y.0) e))
-      (λ (e : TakesEffect (happens w event).0 × ((Gave slot batch ≡ Refused OutOfMemory) × (after ≡ w))). let k : Gave slot batch ≡ Refused OutOfMemory = e.1.0 in cc)
+      (λ (e : TakesEffect (happens w event).0 × (grows w event ≡ true) × (Gave slot batch ≡ Refused OutOfMemory) × (after ≡ w)). let k : Gave slot batch ≡ Refused OutOfMemory = e.2 in cc)
       s
 
 -- ---- at the opening

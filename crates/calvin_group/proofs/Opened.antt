@@ -6,7 +6,8 @@ use Rattle.std.proofs.lemmas.List.FromFn.{map-range_with_len_more, length-map-ra
 use Rattle.calvin_synod.specs.Cases.{fresh}
 use Rattle.calvin_group.specs.declared.packet.Packet.{Packet}
 use Rattle.calvin_group.specs.Groups.{GroupState, opening, IsReached}
-use Rattle.calvin_group.specs.Deeds.{MemberState, IsGroup, group_of}
+use Rattle.calvin_synod.specs.Deeds.{MemberState}
+use Rattle.calvin_group.specs.Deeds.{IsGroup, group_of}
 
 module _ {B : Type 0} (size : ℕ) where
   -- a new replica

@@ -7,11 +7,12 @@ use Rattle.calvin_types.specs.declared.place.Slot.{Slot}
 use Rattle.calvin_group.specs.declared.event.GroupEvent.{GroupEvent}
 use Rattle.calvin_group.specs.declared.event.Outcome.{Outcome}
 use Rattle.calvin_group.specs.declared.event.Outcome.TheVariants.{Gave}
-use Rattle.calvin_group.specs.Groups.{GroupState, opening, Step, Leads, IsReached, Chosen}
+use Rattle.calvin_group.specs.Groups.{GroupState, opening, Step, Leads, IsReached, IsBeginning, Chosen}
 use Rattle.calvin_group.specs.declared.packet.Packet.{Packet}
-use Rattle.calvin_group.specs.Deeds.{MemberState, IsGroup, group_of}
+use Rattle.calvin_synod.specs.Deeds.{MemberState}
+use Rattle.calvin_group.specs.Deeds.{IsGroup, group_of}
 use Rattle.calvin_group.proofs.Events.{Kept, opening_kept}
-use Rattle.calvin_group.proofs.Runs.{leads_on, leads_keeps, kept_one, one_chosen, gave_is_chosen}
+use Rattle.calvin_group.proofs.Runs.{leads_on, leads_through, leads_keeps, kept_one, one_chosen, gave_is_chosen}
 
 module _ {B : Type 0} where
   pub reached_on : (size : ℕ) (w : GroupState B) → IsReached size w → (event : GroupEvent B) (outcome : Outcome B) (after : GroupState B) → Step w event outcome after → IsReached size after
@@ -67,3 +68,19 @@ module _ {B : Type 0} where
 
   pub still_one : (size : ℕ) (w : GroupState B) → IsReached size w → (initial : GroupState B) → w ≡ initial → (slot : Slot) (x y : B) → Chosen initial slot x → Chosen initial slot y → x ≡ y
   still_one size w reached initial view slot x y p q = reached_one size initial (subst (λ v. IsReached size v) view reached) slot x y p q
+
+  -- a beginning of the events that ran
+  pub run_begins : (size : ℕ) (w : GroupState B) → IsReached size w → (initial : GroupState B) → w ≡ initial → (events : List (GroupEvent B)) (i : ℕ) → length events ≤ i → (outcomes : List (Outcome B)) (after : GroupState B) → Leads initial (take i events) outcomes after
+      → (early late : List (GroupEvent B)) → events ≡ early ++ late → IsBeginning initial early late outcomes after
+  run_begins size w reached initial view events i past outcomes after led early late split =
+      let through = leads_through initial early late outcomes after (subst (λ (es : List (GroupEvent B)). Leads initial es outcomes after) split (led_all initial events i past outcomes after led)) in
+      record {
+        then = through.0;
+        first = through.1;
+        rest = through.2;
+        outcomes_are = through.3;
+        led = through.4;
+        led_on = through.5;
+        given = reached_gives size initial (subst (λ v. IsReached size v) view reached) early through.1 through.0 through.4;
+        one = run_one size w reached initial view early through.1 through.0 through.4;
+      }

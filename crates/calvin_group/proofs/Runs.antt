@@ -1,5 +1,5 @@
 -- What holds after every list of events.
-use Rattle.std.proofs.Common.{◌≡◌, ℕ, List, [], ◌∷◌, ◌++◌, length, ◌⊎◌, inl, inr, ⊎_elim, refl, sym, ap, ◌∙◌, subst, Option, Some, None}
+use Rattle.std.proofs.Common.{◌≡◌, ℕ, true, List, [], ◌∷◌, ◌++◌, length, ◌⊎◌, inl, inr, ⊎_elim, refl, sym, ap, ◌∙◌, subst, Option, Some, None}
 use Rattle.std.specs.Prelude.{slice_get}
 use Rattle.std.specs.List.{Contains}
 use Rattle.std.proofs.lemmas.List.{length-set}
@@ -14,7 +14,7 @@ use Rattle.calvin_group.specs.declared.event.GroupEvent.{GroupEvent}
 use Rattle.calvin_group.specs.declared.event.GroupEvent.TheVariants.{Propose, Deliver, Restart}
 use Rattle.calvin_group.specs.declared.event.Outcome.{Outcome}
 use Rattle.calvin_group.specs.declared.event.Outcome.TheVariants.{Gave, Refused}
-use Rattle.calvin_group.specs.Groups.{GroupState, opening, packets_of, carry_out, at_replica, deliver, happens, TakesEffect, Step, Leads, Chosen}
+use Rattle.calvin_group.specs.Groups.{GroupState, opening, packets_of, carry_out, at_replica, deliver, happens, TakesEffect, grows, Step, Leads, Chosen}
 use Rattle.calvin_group.proofs.Events.{Kept, step_keeps, step_gives, opening_kept}
 use Rattle.calvin_group.proofs.Packets.{in_none}
 
@@ -75,7 +75,7 @@ module _ {B : Type 0} where
   step_extends w event outcome after s =
       ⊎_elim
       (λ (e : (outcome, after) ≡ happens w event). subst (Extends w) (sym (ap (λ y. y.1) e)) (happens_extends w event))
-      (λ (e : TakesEffect (happens w event).0 × ((outcome ≡ Refused OutOfMemory) × (after ≡ w))). subst (Extends w) (sym e.1.1) (extends_itself w))
+      (λ (e : TakesEffect (happens w event).0 × (grows w event ≡ true) × (outcome ≡ Refused OutOfMemory) × (after ≡ w)). subst (Extends w) (sym e.3) (extends_itself w))
       s
 
   leads_extends : (w : GroupState B) (events : List (GroupEvent B)) (outcomes : List (Outcome B)) (after : GroupState B) → Leads w events outcomes after → Extends w after

@@ -8,12 +8,14 @@
 --     deliver w packet      the same of a packet that reaches its replica, where there is such a packet
 --     happens w event      how an event ends, and the group after it
 --     TakesEffect outcome      the event was not refused
---     Step w event outcome after      an event ends and leaves the group as `happens` states, or memory runs out where the event would take effect, and nothing changes
+--     grows w event      where the event takes effect, something is kept or sent more, so that memory may be wanting
+--     Step w event outcome after      an event ends and leaves the group as `happens` states, or memory runs out where the event would take effect and something would grow, and nothing changes
 --     Leads w events outcomes after      a list of events leads from one group to another
 --     IsReached size w      some events lead from the opening to it
 --     recorded_by x slot      what a replica has recorded of a slot, if there is such a replica
+--     IsBeginning w early late outcomes after      a beginning of the events led to a group whose learners agree, and the others led on from there
 --     Cast, Chosen      the votes cast;  a batch that a majority voted for at one ballot ("Paxos Made Simple", section 2.1)
-use Rattle.std.specs.Prelude.{◌≡◌, ℕ, List, [], ◌∷◌, ◌++◌, map, length, Option, Some, None, ◌⊎◌, ⊤, slice_get, slice_set, replicate}
+use Rattle.std.specs.Prelude.{◌≡◌, ℕ, Bool, true, false, List, [], ◌∷◌, ◌++◌, map, length, Option, Some, None, ◌⊎◌, ⊤, slice_get, slice_set, replicate}
 use Rattle.std.specs.List.{Contains, range_with_len}
 use Rattle.std.specs.FinMap.{get}
 use Rattle.calvin_types.specs.declared.fault.Fault.TheVariants.{OutOfMemory, NoNode, NoPacket}
@@ -22,7 +24,7 @@ use Rattle.calvin_types.specs.declared.place.Slot.{Slot}
 use Rattle.calvin_synod.specs.declared.vote.Recorded.{Recorded}
 use Rattle.calvin_synod.specs.declared.message.Message.TheVariants.{Accepted}
 use Rattle.calvin_synod.specs.Quorums.{IsChosen}
-use Rattle.calvin_synod.specs.Cases.{Replica, Letters, Silent, ToOne, ToAll, Deed, Refuses, Does, handle, propose, restart, fresh}
+use Rattle.calvin_synod.specs.Cases.{message_grows, Replica, Letters, Silent, ToOne, ToAll, Deed, Refuses, Does, handle, propose, restart, fresh}
 use Rattle.calvin_group.specs.declared.packet.Packet.{Packet}
 use Rattle.calvin_group.specs.declared.event.GroupEvent.{GroupEvent}
 use Rattle.calvin_group.specs.declared.event.GroupEvent.TheVariants.{Propose, Deliver, Restart}
@@ -77,9 +79,19 @@ module _ {B : Type 0} where
   TakesEffect (Gave slot batch) = ⊤
   TakesEffect (Refused fault) = ⊥
 
-  -- an event has the outcome and the effect that its case states, or it would take effect but memory runs out, and nothing changes
+  abbrev pub packet_grows : Option (Packet B) → Bool
+  packet_grows None = false
+  packet_grows (Some p) = message_grows p.message
+
+  -- a proposal is kept and sent; of a delivery the message tells; a restart takes nothing more
+  abbrev pub grows : GroupState B → GroupEvent B → Bool
+  grows w (Propose me slot batch) = true
+  grows w (Deliver number) = packet_grows (slice_get w.packets number)
+  grows w (Restart me) = false
+
+  -- an event has the outcome and the effect that its case states, or it would take effect and something would grow but memory runs out, and nothing changes
   abbrev pub Step : GroupState B → GroupEvent B → Outcome B → GroupState B → Type 0
-  Step w event outcome after = ((outcome, after) ≡ happens w event) ⊎ (TakesEffect (happens w event).0 × ((outcome ≡ Refused OutOfMemory) × (after ≡ w)))
+  Step w event outcome after = ((outcome, after) ≡ happens w event) ⊎ (TakesEffect (happens w event).0 × (grows w event ≡ true) × (outcome ≡ Refused OutOfMemory) × (after ≡ w))
 
   -- a list of events leads from one group to another, with an outcome for each
   abbrev pub Leads : GroupState B → List (GroupEvent B) → List (Outcome B) → GroupState B → Type 0
@@ -100,6 +112,17 @@ module _ {B : Type 0} where
   -- a majority voted for the batch at one ballot
   abbrev pub Chosen : GroupState B → Slot → B → Type 0
   Chosen w slot batch = IsChosen (length w.replicas) (Cast w slot) batch
+
+-- a beginning of the events led to a group in which what its learners gave so far is chosen, and one batch at most for each slot; and the others led on from there
+pub record IsBeginning {B : Type 0} (w : GroupState B) (early late : List (GroupEvent B)) (outcomes : List (Outcome B)) (after : GroupState B) : Type 0 where
+  pub then : GroupState B
+  pub first : List (Outcome B)
+  pub rest : List (Outcome B)
+  pub outcomes_are : outcomes ≡ first ++ rest
+  pub led : Leads w early first then
+  pub led_on : Leads then late rest after
+  pub given : (slot : Slot) (batch : B) → Contains first (Gave slot batch) → Chosen then slot batch
+  pub one : (slot : Slot) (x y : B) → Chosen then slot x → Chosen then slot y → x ≡ y
 
 -- some events lead from the opening to it
 pub record IsReached {B : Type 0} (size : ℕ) (w : GroupState B) : Type 0 where

@@ -1,19 +1,18 @@
 //! A group of replicas, and every packet that was ever sent.
-ghost use Rattle.std.specs.Prelude.{◌≡◌, List, IfOk, IsOkUnless, OnErr, slice_get};
+ghost use Rattle.std.specs.Prelude.{◌≡◌, ◌++◌, List, IfOk, IsOkUnless, OnErr, slice_get};
 ghost use Rattle.std.specs.List.{Contains};
 ghost use Rattle.std.specs.Option.{option_copied};
 ghost use Rattle.calvin_types.specs.declared.place.Slot.{Slot};
 ghost use Rattle.calvin_types.specs.declared.txn.Txn.{Txn};
+ghost use Rattle.calvin_group.specs.declared.event.GroupEvent.{GroupEvent};
 ghost use Rattle.calvin_group.specs.declared.event.Outcome.TheVariants.{Gave};
-ghost use Rattle.calvin_group.specs.Groups.{opening, recorded_by, Step, Leads, Chosen};
+ghost use Rattle.calvin_group.specs.Groups.{opening, recorded_by, Step, Leads, Chosen, IsBeginning};
 ghost use Rattle.calvin_group.specs.Deeds.{ended};
 
 use crate::event::{GroupEvent, Outcome};
 use crate::happening;
-use crate::mail::Given;
-use crate::member::Member;
 use crate::packet::Packet;
-use calvin_synod::Recorded;
+use calvin_synod::{Given, Member, Recorded};
 use calvin_types::{Batch, Config, Fault, Slot};
 use std::alloc::Global;
 use std::marker::Model;
@@ -32,7 +31,8 @@ impl<Args> Model for Group<Args> {
     ghost use Rattle.calvin_types.specs.declared.txn.Txn.{Txn};
     ghost use Rattle.calvin_group.specs.Groups.{GroupState, IsReached};
     ghost use Rattle.calvin_group.specs.Deeds.{IsGroup, group_of};
-    ghost use Rattle.calvin_group.specs.Codes.{coded_batch, coded_group};
+    ghost use Rattle.calvin_synod.specs.MessageCodes.{coded_batch};
+    ghost use Rattle.calvin_group.specs.Codes.{coded_group};
 
     ghost Value = { GroupState (List (Txn Args)) };
 
@@ -80,18 +80,21 @@ impl<Args: Copy> Group<Args> {
     }
 
     /// Lets events happen one after another, and says how each ended. Refused with `OutOfMemory` where there was no room
-    /// for that: then none happened.
+    /// for that: then none happened. Whatever ran before, what is promised holds after the events and after each
+    /// beginning of them.
     pub fn run(
         &mut self,
         events: &[GroupEvent<Batch<Args>>],
     ) -> Result<Vec<Outcome<Batch<Args>>>, Fault>
         ensures ran { IfOk result (λ outcomes. Leads self.old events.now outcomes.items self.new) }
-        ensures kept { OnErr result (self.new ≡ self.old) }
-        ensures err { IsOkUnless result Fault.OutOfMemory }
+        ensures err { OnErr result (self.new ≡ self.old) }
+        ensures only { IsOkUnless result Fault.OutOfMemory }
         // What a learner gave for a slot is chosen.
         ensures given { IfOk result (λ outcomes. (slot : Slot) (batch : List (Txn Args)) → Contains outcomes.items (Gave slot batch) → Chosen self.new slot batch) }
-        // Whatever ran before, two batches chosen for one slot are the same.
+        // Two batches chosen for one slot are the same.
         ensures one { (slot : Slot) (x y : List (Txn Args)) → Chosen self.new slot x → Chosen self.new slot y → x ≡ y }
+        // The same was so after each beginning of the events.
+        ensures beginnings { IfOk result (λ outcomes. (early late : List (GroupEvent (List (Txn Args)))) → events.now ≡ early ++ late → IsBeginning self.old early late outcomes.items self.new) }
         // What was chosen before stays chosen.
         ensures stays { (slot : Slot) (batch : List (Txn Args)) → Chosen self.old slot batch → Chosen self.new slot batch }
     {

@@ -1,18 +1,17 @@
 //! What an event makes of the replicas of a group, and of its packets.
-ghost use Rattle.std.specs.Prelude.{List, Ok};
+ghost use Rattle.std.specs.Prelude.{List, Ok, true, false};
 ghost use Rattle.calvin_types.specs.declared.txn.Txn.{Txn};
 ghost use Rattle.calvin_synod.specs.Cases as cases;
 ghost use Rattle.calvin_group.specs.declared.packet.Packet.{Packet};
 ghost use Rattle.calvin_group.specs.declared.event.GroupEvent.TheVariants.{Propose, Deliver, Restart};
 ghost use Rattle.calvin_group.specs.Groups.{Step};
-ghost use Rattle.calvin_group.specs.Deeds.{IsGroup, group_of, ended, Sends, Did, Posted};
+ghost use Rattle.calvin_synod.specs.Cases.{message_grows};
+ghost use Rattle.calvin_synod.specs.Deeds.{Sends, Did};
+ghost use Rattle.calvin_group.specs.Deeds.{IsGroup, group_of, ended, Posted};
 
-use crate::copies::copy_of_message;
-use crate::mail::{Given, Mail};
-use crate::member::Member;
 use crate::packet::Packet;
 use crate::sending::post;
-use calvin_synod::Message;
+use calvin_synod::{Given, Mail, Member, Message};
 use calvin_types::{Batch, Fault, Slot};
 
 /// A replica begins a new ballot for a slot, with a batch to propose. Refused with `NoNode` where there is no such
@@ -33,14 +32,8 @@ pub fn propose<Args: Copy>(
     if at >= members.len() {
         return Err(Fault::NoNode);
     }
-    let mail = match members[at].prepare_to_all(slot) {
-        Ok(mail) => mail,
-        Err(fault) => return Err(fault),
-    };
-    let batch = match batch.copy() {
-        Ok(batch) => batch,
-        Err(fault) => return Err(fault),
-    };
+    let mail = members[at].prepare_to_all(slot)?;
+    let batch = batch.copy()?;
     post_and_propose(&mut members[at], packets, size, replica, mail, slot, batch)
 }
 
@@ -66,14 +59,8 @@ pub fn deliver<Args: Copy>(
     if at >= members.len() {
         return Err(Fault::NoNode);
     }
-    let mail = match members[at].answer(from, &packet.message) {
-        Ok(mail) => mail,
-        Err(fault) => return Err(fault),
-    };
-    let message = match copy_of_message(&packet.message) {
-        Ok(message) => message,
-        Err(fault) => return Err(fault),
-    };
+    let mail = members[at].answer(from, &packet.message)?;
+    let message = packet.message.copy()?;
     post_and_take(&mut members[at], packets, size, to, mail, from, message)
 }
 
@@ -106,15 +93,12 @@ fn post_and_propose<Args: Copy>(
     slot: Slot,
     batch: Batch<Args>,
 ) -> Result<Given<Batch<Args>>, Fault>
-    requires { Sends (Ok mail) (cases.propose member.old.me slot batch member.old.replica) }
-    ensures did { Did result (cases.propose member.old.me slot batch member.old.replica) member.old member.new }
+    requires { Sends false (Ok mail) (cases.propose member.old.me slot batch member.old.replica) }
+    ensures did { Did true result (cases.propose member.old.me slot batch member.old.replica) member.old member.new }
     ensures posted { Posted packets.old.items size replica mail result packets.new.items }
 {
     let sent = packets.len();
-    match post(packets, size, replica, mail) {
-        Ok(()) => (),
-        Err(fault) => return Err(fault),
-    }
+    post(packets, size, replica, mail)?;
     match member.propose(slot, batch) {
         Ok(given) => Ok(given),
         Err(fault) => {
@@ -135,15 +119,12 @@ fn post_and_take<Args: Copy>(
     from: u8,
     message: Message<Batch<Args>>,
 ) -> Result<Given<Batch<Args>>, Fault>
-    requires { Sends (Ok mail) (cases.handle member.old.size from message member.old.replica) }
-    ensures did { Did result (cases.handle member.old.size from message member.old.replica) member.old member.new }
+    requires { Sends (message_grows message) (Ok mail) (cases.handle member.old.size from message member.old.replica) }
+    ensures did { Did (message_grows message) result (cases.handle member.old.size from message member.old.replica) member.old member.new }
     ensures posted { Posted packets.old.items size replica mail result packets.new.items }
 {
     let sent = packets.len();
-    match post(packets, size, replica, mail) {
-        Ok(()) => (),
-        Err(fault) => return Err(fault),
-    }
+    post(packets, size, replica, mail)?;
     match member.take(from, message) {
         Ok(given) => Ok(given),
         Err(fault) => {

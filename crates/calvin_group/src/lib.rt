@@ -2,13 +2,10 @@
 //! Whatever is lost, repeated, reordered or restarted, its learners agree.
 #![tactic(auto)]
 
-mod copies;
 mod event;
 mod group;
 mod happening;
 mod law;
-mod mail;
-mod member;
 mod packet;
 mod sending;
 
@@ -16,10 +13,3 @@ pub use event::{GroupEvent, Outcome};
 pub use group::Group;
 pub use law::{agrees, can_choose};
 pub use packet::Packet;
-
-#[cfg(test)]
-mod drawn;
-#[cfg(test)]
-mod plain;
-#[cfg(test)]
-mod tests;

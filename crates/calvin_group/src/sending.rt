@@ -1,13 +1,11 @@
 //! What a replica sends, as packets.
-ghost use Rattle.std.specs.Prelude.{◌≡◌, ◌++◌, length, take, IsOkUnless, OnOk, OnErr};
+ghost use Rattle.std.specs.Prelude.{◌≡◌, ◌++◌, length, take, IsOk, IsOkUnless, OnOk, OnErr};
 ghost use Rattle.calvin_synod.specs.Cases as cases;
 ghost use Rattle.calvin_group.specs.Groups.{packets_of};
-ghost use Rattle.calvin_group.specs.Deeds.{letters_of};
+ghost use Rattle.calvin_synod.specs.Deeds.{letters_of};
 
-use crate::copies::copy_of_message;
-use crate::mail::Mail;
 use crate::packet::Packet;
-use calvin_synod::Message;
+use calvin_synod::{Mail, Message};
 use calvin_types::{Batch, Fault};
 
 /// Sends what a replica has to send, in a group of this size. Refused with `OutOfMemory` where there was no room, or a
@@ -19,8 +17,9 @@ pub fn post<Args: Copy>(
     mail: Mail<Batch<Args>>,
 ) -> Result<(), Fault>
     ensures sent { OnOk result (packets.new.items ≡ packets.old.items ++ packets_of size from (letters_of mail)) }
-    ensures kept { OnErr result (packets.new.items ≡ packets.old.items) }
-    ensures err { IsOkUnless result Fault.OutOfMemory }
+    ensures err { OnErr result (packets.new.items ≡ packets.old.items) }
+    ensures only { IsOkUnless result Fault.OutOfMemory }
+    ensures succeeds { letters_of mail ≡ cases.Silent → IsOk result }
 {
     match mail {
         Mail::Nothing => Ok(()),
@@ -53,7 +52,7 @@ fn post_to_all<Args: Copy>(
     ensures err { IsOkUnless result Fault.OutOfMemory }
 {
     for to in 0..size {
-        let message = copy_of_message(message)?;
+        let message = message.copy()?;
         packets.push(Packet { from, to, message })?;
     }
     Ok(())

@@ -1,5 +1,5 @@
 -- A list of requests in the order of their places, beside the finite map that it is.
-use Rattle.std.proofs.Common.{◌≡◌, ℕ, zero, suc, ◌+◌, ◌<◌, ◌≤◌, Bool, true, false, cond, T, inl, inr, List, [], ◌∷◌, ◌++◌, Option, Some, None, slice_get, length, refl, sym, ap, subst, ◌∙◌, arith}
+use Rattle.std.proofs.Common.{◌≡◌, ℕ, zero, suc, ◌+◌, ◌<◌, ◌≤◌, Bool, true, false, cond, T, inl, inr, List, [], ◌∷◌, ◌++◌, Option, Some, None, is_some, slice_get, length, refl, sym, ap, subst, ◌∙◌, arith}
 use Rattle.std.proofs.lemmas.Bool.{false≢true, cases_lt}
 use Rattle.std.proofs.lemmas.Option.{none-some, same_Some, slice_get_within}
 use Rattle.std.specs.declared.cmp.Ordering.{Ordering}
@@ -13,6 +13,7 @@ use Rattle.calvin_types.specs.declared.key_set.Sets.{Sets}
 use Rattle.calvin_types.specs.declared.place.Place.{Place}
 use Rattle.calvin_types.specs.Places.{place_cmp, IsBefore}
 use Rattle.calvin_lock.specs.Ready.{Conflict, IsReady, IsPast, IsFirstReady}
+use Rattle.calvin_lock.specs.Locking.{IsUpToLast}
 use Rattle.calvin_lock.specs.ListOrder.{UpTo, IsAt, IsFree, IsInOrder}
 use Rattle.calvin_types.proofs.PlaceOrder.{place_total, place_exact, not_before_itself, not_both, one_place, same_itself, not_same}
 use Rattle.calvin_types.proofs.Conjunctions.{first, second, both, less}
@@ -111,7 +112,7 @@ module _ {X : Type 0} where
   below_push q p h (x ∷ es) all before = both _ _ (first _ (below_all place_cmp q es) all) (below_push q p h es (second (is_lt (place_cmp q x.0)) _ all) before)
 
 -- a place past another comes after those that aren't
-past_before : (last : Option Place) (p q : Place) → ¬ IsPast last p → IsPast last q → IsBefore p q
+pub past_before : (last : Option Place) (p q : Place) → ¬ IsPast last p → IsPast last q → IsBefore p q
 past_before None p q upto past = absurd (upto tt)
 past_before (Some a) p q upto past = go (place_cmp p a) refl
   where
@@ -240,3 +241,16 @@ module _ (es : List (Place × Sets)) (rising : T (is_sorted place_cmp es)) where
         let same : e ≡ f = same_Some e f (sym at ∙ there) in
         neither (subst (λ (y : Place × Sets). IsPast after y.0) (sym same) past) (ready_free i f there ready)) in
         λ k f less. all k less f
+
+-- no requested place of a list in order is past the last one
+up_to_at : (last : Option Place) (es : List (Place × Sets)) (i : ℕ) (e : Place × Sets) → UpTo last es → slice_get es i ≡ Some e → ¬ IsPast last e.0
+up_to_at last [] i e upto at = absurd (none-some e at)
+up_to_at last (x ∷ es) zero e upto at = subst (λ (y : Place × Sets). ¬ IsPast last y.0) (same_Some x e at) upto.0
+up_to_at last (x ∷ es) (suc i) e upto at = up_to_at last es i e upto.1 at
+
+pub up_to_last : (es : List (Place × Sets)) (last : Option Place) → IsInOrder es last → IsUpToLast (record { requested = from_entries es; last = last })
+up_to_last es last order q some = go (get (from_entries {R = place_cmp} es) q) refl
+  where
+    go : (o : Option Sets) → get (from_entries {R = place_cmp} es) q ≡ o → ¬ IsPast last q
+    go None is = absurd (false≢true (sym (ap is_some is) ∙ some))
+    go (Some h) is = let there = stands es order.rising q h is in up_to_at last es there.0 (q, h) order.up_to there.1

@@ -1,4 +1,5 @@
 -- The locks of one partition: each partition keeps those of the keys that it stores (Thomson et al. 2012, section 3).
+-- No call of a lock manager names these: a scheduler does, and proofs/LocalLocks ties them to its lock manager's words.
 --     local_sets site g      those of the keys that the site stores
 --     ConflictAt site g h      one writes a key stored at the site that the other reads or writes
 --     IsReadyAt site unreleased q h      no earlier unreleased place conflicts at the site with the place q, whose keys are h

@@ -21,5 +21,5 @@ coded_sets = code_by (List Key × List Key) (coded× (coded_list coded_key) (cod
 
 -- what a lock manager keeps as pairs, and back
 abbrev pub coded_locking : Coded Locking
-coded_locking = code_by (Requested × (Option Place × ℕ)) (coded× (code coded_place coded_sets) (coded× (coded_option coded_place) coded_ℕ))
-    (λ l. (l.requested, (l.last, l.room))) (λ p. record { requested = p.0; last = p.1.0; room = p.1.1 }) (λ _. refl)
+coded_locking = code_by (Requested × Option Place) (coded× (code coded_place coded_sets) (coded_option coded_place))
+    (λ l. (l.requested, l.last)) (λ p. record { requested = p.0; last = p.1 }) (λ _. refl)

@@ -5,10 +5,7 @@
 --     IsPast a q      the place q is greater than the place a, where there is one
 --     IsFirstReady r after answer      the answer is the least ready place past another, or none where there is none
 --     IsOldest r q      the place q is the least one of r
---     oldest_ready      the least unreleased place is ready
-use Rattle.std.specs.Prelude.{◌≡◌, true, ◌⊎◌, ◌++◌, Option, Some, None, IsSome, MatchOption, refl, is_some}
-use Rattle.std.proofs.Common.{sym, ap, ◌∙◌}
-use Rattle.std.proofs.lemmas.Bool.{false≢true}
+use Rattle.std.specs.Prelude.{◌≡◌, true, ◌⊎◌, ◌++◌, Option, Some, None, IsSome, MatchOption}
 use Rattle.std.specs.FinMap.{FinMap, get}
 use Rattle.calvin_types.specs.declared.key.Key.{Key}
 use Rattle.calvin_types.specs.declared.key_set.Sets.{Sets}
@@ -41,11 +38,3 @@ IsFirstReady r after answer = MatchOption answer ((q : Place) → IsPast after q
 -- the least unreleased place
 abbrev pub IsOldest : Requested → Place → Type 0
 IsOldest r q = IsSome (get r q) × ((n : Place) → IsSome (get r n) → ¬ IsBefore n q)
-
--- the least unreleased place is ready: no earlier one is there to conflict with it
-pub oldest_ready : (r : Requested) (q : Place) → IsOldest r q → IsReady r q
-oldest_ready r q oldest = go (get r q) refl
-  where
-    go : (o : Option Sets) → get r q ≡ o → IsReady r q
-    go None e = absurd (false≢true (sym (ap is_some e) ∙ oldest.0))
-    go (Some h) e = (h, e, λ n g there before c. oldest.1 n (ap is_some there) before)

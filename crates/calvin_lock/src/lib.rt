@@ -7,7 +7,7 @@ mod list_locks;
 mod locks;
 
 pub use list_locks::ListLocks;
-pub use locks::{Locks, oldest_is_ready};
+pub use locks::{Locks, oldest_is_ready, ready_stays};
 
 #[cfg(test)]
 mod tests;

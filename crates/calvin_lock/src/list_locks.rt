@@ -18,11 +18,9 @@ use std::marker::Model;
 pub struct ListLocks {
     unreleased: Vec<(Place, Sets)>,
     last: Option<Place>,
-    room: usize,
 }
 
 impl Model for ListLocks {
-    ghost use Rattle.std.specs.Prelude.{◌+◌, ◌≤◌, vec_len, vec_capacity};
     ghost use Rattle.std.specs.FinMap.{from_entries};
     ghost use Rattle.calvin_lock.specs.Locking.{Locking};
     ghost use Rattle.calvin_lock.specs.LocksCode.{coded_locking};
@@ -32,9 +30,9 @@ impl Model for ListLocks {
 
     ghost coded = { coded_locking };
 
-    ghost view = { λ l. record { requested = from_entries l.unreleased.items; last = l.last; room = l.room } };
+    ghost view = { λ l. record { requested = from_entries l.unreleased.items; last = l.last } };
 
-    ghost invariant = { λ l. IsInOrder l.unreleased.items l.last × (vec_len l.unreleased + l.room ≤ vec_capacity l.unreleased) };
+    ghost invariant = { λ l. IsInOrder l.unreleased.items l.last };
 }
 
 impl Locks for ListLocks {
@@ -44,7 +42,6 @@ impl Locks for ListLocks {
         ListLocks {
             unreleased: Vec::new(alloc),
             last: None,
-            room: 0,
         }
     }
 
@@ -61,15 +58,6 @@ impl Locks for ListLocks {
         };
         self.unreleased.push((place, sets))?;
         self.last = Some(place);
-        self.room = self.room.saturating_sub(1);
-        Ok(())
-    }
-
-    fn reserve_request(&mut self) -> Result<(), Fault> {
-        if self.room == 0 {
-            self.unreleased.reserve(1)?;
-            self.room = 1;
-        }
         Ok(())
     }
 
@@ -85,6 +73,10 @@ impl Locks for ListLocks {
             }
             None => Err(Fault::NotHeld),
         }
+    }
+
+    fn up_to_last(&self) {
+        let _last = self.last;
     }
 
     fn first_ready(&self, after: Option<Place>) -> Option<Place> {

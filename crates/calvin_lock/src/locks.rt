@@ -1,8 +1,9 @@
 //! What a lock manager is.
-ghost use Rattle.std.specs.Prelude.{◌≡◌, ◌<◌, ◌↔◌, ◌⊎◌, IsTrue, IsOk, IfErr, IsErrOf, OnOk, OnErr, IsOkUnless};
+ghost use Rattle.std.specs.Prelude.{◌≡◌, ◌≢◌, ◌↔◌, ◌⊎◌, IsTrue, IsOk, IfErr, IsErrOf, OnOk, OnErr, IsOkUnless};
+ghost use Rattle.calvin_types.specs.declared.key_set.Sets.{Sets};
 ghost use Rattle.calvin_types.specs.declared.place.Place.{Place};
 ghost use Rattle.calvin_lock.specs.Ready.{IsReady, IsPast, IsFirstReady, IsOldest};
-ghost use Rattle.calvin_lock.specs.Locking.{IsNoKey, no_locks, with_request, with_room, without};
+ghost use Rattle.calvin_lock.specs.Locking.{IsNoKey, no_locks, IsUpToLast, with_request, without};
 
 use calvin_types::{Fault, KeySet, Place};
 use std::alloc::Global;
@@ -13,11 +14,9 @@ use std::alloc::Global;
 /// granted strictly in the order of the requests, so a place is ready as soon as no earlier unreleased one conflicts
 /// with it (Thomson et al. 2012, section 3).
 pub trait Locks {
-    ghost use Rattle.calvin_types.specs.declared.place.Place.{Place};
     ghost use Rattle.calvin_lock.specs.Locking.{Locking};
-    ghost use Rattle.calvin_lock.specs.Ready.{IsOldest, IsReady, oldest_ready};
 
-    /// The unreleased places with their keys, the last place requested, and how many requests are sure to find room.
+    /// The unreleased places with their keys, and the last place requested.
     ghost kept: { Self → Locking };
 
     /// No place has requested locks.
@@ -28,21 +27,12 @@ pub trait Locks {
     /// writes. Refused with `LocksOutOfOrder` where the place isn't greater than the last one requested; else with
     /// `NoKeys` where both sets are empty; else with `OutOfMemory` where a growth was refused.
     fn request(&mut self, place: Place, reads: &KeySet, writes: &KeySet) -> Result<(), Fault>
-        ensures requested { OnOk result (kept self.new ≡ with_request place (record { reads = reads.now; writes = writes.now }) (kept self.old)) }
-        ensures unchanged { OnErr result (kept self.new ≡ kept self.old) }
+        ensures ok { OnOk result (kept self.new ≡ with_request place (record { reads = reads.now; writes = writes.now }) (kept self.old)) }
+        ensures err { OnErr result (kept self.new ≡ kept self.old) }
         ensures in_order { OnOk result (IsPast (kept self.old).last place) }
         ensures out_of_order { IsErrOf result Fault.LocksOutOfOrder ↔ ¬ IsPast (kept self.old).last place }
         ensures no_keys { IsErrOf result Fault.NoKeys ↔ (IsPast (kept self.old).last place × IsNoKey reads.now writes.now) }
-        ensures faults { IfErr result (λ fault. (fault ≡ Fault.LocksOutOfOrder) ⊎ ((fault ≡ Fault.NoKeys) ⊎ (fault ≡ Fault.OutOfMemory))) }
-        ensures succeeds { 0 < (kept self.old).room → ¬ IsErrOf result Fault.OutOfMemory };
-
-    /// Makes room, so that `request`, made next, isn't refused with `OutOfMemory`. Refused with that where there is no
-    /// room and a growth was refused.
-    fn reserve_request(&mut self) -> Result<(), Fault>
-        ensures reserved { OnOk result (kept self.new ≡ with_room (kept self.old)) }
-        ensures unchanged { OnErr result (kept self.new ≡ kept self.old) }
-        ensures err { IsOkUnless result Fault.OutOfMemory }
-        ensures succeeds { 0 < (kept self.old).room → IsOk result };
+        ensures only { IfErr result (λ fault. (fault ≡ Fault.LocksOutOfOrder) ⊎ ((fault ≡ Fault.NoKeys) ⊎ (fault ≡ Fault.OutOfMemory))) };
 
     /// Whether a place holds all its locks: it is requested and unreleased, and conflicts with no earlier unreleased
     /// place on a key. It takes no memory.
@@ -52,20 +42,32 @@ pub trait Locks {
     /// Releases the locks of a place. Refused with `NotHeld` where the place isn't ready, so also where it wasn't
     /// requested or was released already. It takes no memory.
     fn release(&mut self, place: Place) -> Result<(), Fault>
-        ensures released { OnOk result (kept self.new ≡ without place (kept self.old)) }
-        ensures unchanged { OnErr result (kept self.new ≡ kept self.old) }
+        ensures ok { OnOk result (kept self.new ≡ without place (kept self.old)) }
+        ensures err { OnErr result (kept self.new ≡ kept self.old) }
         ensures held { IsOk result ↔ IsReady (kept self.old).requested place }
-        ensures err { IsOkUnless result Fault.NotHeld };
+        ensures only { IsOkUnless result Fault.NotHeld };
 
     /// The least ready place, of those greater than `after` where one is given. It takes no memory.
     fn first_ready(&self, after: Option<Place>) -> Option<Place>
         ensures { IsFirstReady (kept self.now).requested after result };
 
-    /// The least unreleased place is always ready.
-    ghost oldest_is_ready: { (locks : Self) (place : Place) → IsOldest (kept locks).requested place → IsReady (kept locks).requested place } = { λ locks place oldest. oldest_ready (kept locks).requested place oldest };
+    /// No requested place is past the last one. The call only says so, and does nothing.
+    fn up_to_last(&self)
+        ensures { IsUpToLast (kept self.now) };
 }
 
 /// The least unreleased place is always ready: so those that wait never wait for one another in a circle.
+#[tactic(auto, using(crate::proofs::ReadyLaws::oldest_ready))]
 pub fn oldest_is_ready<L: Locks>(locks: &L)
     ensures { (place : Place) → IsOldest (L.kept locks.now).requested place → IsReady (L.kept locks.now).requested place }
 {}
+
+/// A ready place stays ready when a later one is requested, and when another is released: so whoever holds its locks
+/// keeps them until it releases them.
+#[tactic(auto, using(crate::proofs::ReadyLaws::ready_without))]
+pub fn ready_stays<L: Locks>(locks: &L)
+    ensures requested { let l = L.kept locks.now in (q later : Place) (sets : Sets) → IsReady l.requested q → IsPast l.last later → IsReady (with_request later sets l).requested q }
+    ensures released { let l = L.kept locks.now in (q other : Place) → IsReady l.requested q → q ≢ other → IsReady (without other l).requested q }
+{
+    locks.up_to_last();
+}

@@ -2,7 +2,7 @@
 //! for one that searches its list from the end.
 mod last_first;
 
-use crate::{ListLocks, Locks, oldest_is_ready};
+use crate::{ListLocks, Locks, oldest_is_ready, ready_stays};
 use calvin_types::{Fault, Key, KeySet, Place};
 use last_first::LastFirst;
 use std::alloc::Global;
@@ -111,14 +111,15 @@ fn called<L: Locks + Drop>(rt: &impl Abort, alloc: Global) -> Result<(), Fault> 
     assert_eq!(rt; locks.is_ready(place(0)), false);
     assert_eq!(rt; number(locks.release(place(0)))?, 12);
     assert_eq!(rt; request(&mut locks, 4, &[], &[])?, 11);
-    assert_eq!(rt; number(locks.reserve_request())?, 0);
     assert_eq!(rt; request(&mut locks, 4, &[1, 2], &[2])?, 0);
     assert_eq!(rt; request(&mut locks, 4, &[], &[])?, 10);
     assert_eq!(rt; request(&mut locks, 3, &[9], &[])?, 10);
     assert_eq!(rt; request(&mut locks, 5, &[2], &[])?, 0);
     assert_eq!(rt; locks.is_ready(place(4)), true);
     assert_eq!(rt; locks.is_ready(place(5)), false);
+    locks.up_to_last();
     oldest_is_ready(&locks);
+    ready_stays(&locks);
     assert_eq!(rt; locks.first_ready(None), Some(place(4)));
     assert_eq!(rt; number(locks.release(place(4)))?, 0);
     assert_eq!(rt; request(&mut locks, 4, &[1], &[])?, 10);
@@ -133,8 +134,7 @@ fn calls(rt: HostRuntime) -> Result<(), Fail> {
     Ok(())
 }
 
-/// Where memory is refused once, nothing has changed, and the same call made again does its work; a reserved request
-/// isn't refused.
+/// Where memory is refused once, nothing has changed, and the same call made again does its work.
 fn refused<L: Locks + Drop>(rt: &impl Abort, alloc: Global) -> Result<(), Fault> {
     let mut locks = L::empty(alloc);
     for n in 0..20 {
@@ -144,14 +144,6 @@ fn refused<L: Locks + Drop>(rt: &impl Abort, alloc: Global) -> Result<(), Fault>
             assert_eq!(rt; request(&mut locks, n, &[7], &[])?, 0);
         }
         assert_eq!(rt; locks.is_ready(place(n)), true);
-    }
-    for n in 20..40 {
-        if let Err(fault) = locks.reserve_request() {
-            assert_eq!(rt; fault.number(), 1);
-            locks.reserve_request()?;
-        }
-        assert_eq!(rt; request(&mut locks, n, &[], &[7])?, 0);
-        assert_eq!(rt; locks.is_ready(place(n)), false);
     }
     Ok(())
 }

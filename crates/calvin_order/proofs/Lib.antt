@@ -3,3 +3,4 @@ pub mod Places
 pub mod Ranges
 pub mod Standing
 pub mod Stretches
+pub mod Walks

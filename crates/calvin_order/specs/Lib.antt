@@ -1,3 +1,4 @@
 pub mod Codes
 pub mod Merged
 pub mod Merging
+pub mod Walking

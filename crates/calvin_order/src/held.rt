@@ -5,7 +5,8 @@ ghost use Rattle.std.specs.FinMap as map;
 ghost use Rattle.calvin_order.specs.Merged.{joined, numbered, merged};
 ghost use Rattle.calvin_order.specs.Merging.{batch_at, HoldsAll, without_epoch};
 
-use calvin_types::{Batch, Fault, Place, Slot, Txn};
+use crate::walk::{BatchSource, EpochRequests};
+use calvin_types::{Batch, Fault, MOST_REQUESTS, Place, Slot, Txn};
 use std::alloc::Global;
 use std::collections::HashMap;
 use std::marker::Model;
@@ -106,24 +107,10 @@ impl<Args: Copy> Held<Args> {
         true
     }
 
-    /// The requests of the batch for a slot: none where there is no batch.
-    pub fn requests(&self, slot: Slot) -> &[Txn<Args>]
-        ensures requests { result.now ≡ batch_at self.now.batches slot }
-        ensures at_most { length result.now ≤ 256 }
-    {
-        match self.get(slot) {
-            Some(batch) => {
-                let _size = batch.len();
-                batch.as_slice()
-            }
-            None => &[],
-        }
-    }
-
     /// How many requests the batch for a slot has.
     fn len_at(&self, slot: Slot) -> usize
         ensures len { result ≡ length (batch_at self.now.batches slot) }
-        ensures at_most { result ≤ 256 }
+        ensures at_most { result ≤ MOST_REQUESTS }
     {
         match self.get(slot) {
             Some(batch) => batch.len(),
@@ -134,7 +121,7 @@ impl<Args: Copy> Held<Args> {
     /// How many requests the groups' batches for an epoch have.
     pub fn count(&self, epoch: u64, groups: u8) -> usize
         ensures count { result ≡ length (joined (batch_at self.now.batches) epoch groups) }
-        ensures at_most { result ≤ 256 * groups }
+        ensures at_most { result ≤ MOST_REQUESTS * groups }
     {
         let mut count = 0;
         for group in 0..groups {
@@ -146,26 +133,26 @@ impl<Args: Copy> Held<Args> {
     /// Appends the groups' requests for an epoch, each with its place.
     pub fn append_all(&self, epoch: u64, groups: u8, out: &mut Vec<(Place, Txn<Args>)>)
         requires empty { out.old.items ≡ [] }
-        requires few { length (joined (batch_at self.now.batches) epoch groups) ≤ 4096 }
+        requires few { groups ≤ 16 }
         requires room { length (joined (batch_at self.now.batches) epoch groups) ≤ vec_capacity out.old }
         ensures { out.new.items ≡ merged groups (batch_at self.now.batches) epoch }
     {
-        for group in 0..groups {
-            append(epoch, self.requests(Slot { epoch, group }), out);
+        for (place, txn) in EpochRequests::new(self, epoch, groups) {
+            out.push_reserved((place, *txn));
         }
     }
 }
 
-/// Appends requests, each with its place: the first has the number of requests that are there.
-fn append<Args: Copy>(epoch: u64, txns: &[Txn<Args>], out: &mut Vec<(Place, Txn<Args>)>)
-    requires few { vec_len out.old + length txns.now ≤ 4096 }
-    requires room { vec_len out.old + length txns.now ≤ vec_capacity out.old }
-    ensures appended { out.new.items ≡ out.old.items ++ numbered epoch (vec_len out.old) txns.now }
-    ensures len { vec_len out.new ≡ vec_len out.old + length txns.now }
-    ensures capacity { vec_capacity out.old ≤ vec_capacity out.new }
-{
-    for txn in txns {
-        let n = out.len() as u32;
-        out.push_reserved((Place { epoch, n }, *txn));
+impl<Args: Copy> BatchSource<Txn<Args>> for Held<Args> {
+    ghost assignment = { λ h. batch_at h.batches };
+
+    fn requests(&self, slot: Slot) -> &[Txn<Args>] {
+        match self.get(slot) {
+            Some(batch) => {
+                let _size = batch.len();
+                batch.as_slice()
+            }
+            None => &[],
+        }
     }
 }

@@ -4,7 +4,7 @@
 
 mod held;
 mod merge;
-#[cfg(test)]
-mod tests;
+mod walk;
 
 pub use merge::{Merge, orders_rise};
+pub use walk::{BatchSource, EpochRequests};

@@ -7,6 +7,7 @@ ghost use Rattle.calvin_order.specs.Merged.{merged, OrdersRise};
 ghost use Rattle.calvin_order.specs.Merging.{held_by, with_batch, without_epoch, IsComplete, IsReady};
 
 use crate::held::Held;
+use crate::walk::BatchSource;
 use calvin_types::{Batch, Config, Fault, Place, Slot, Txn};
 use std::alloc::Global;
 use std::marker::Model;
@@ -96,17 +97,6 @@ impl<Args: Copy> Merge<Args> {
         self.next
     }
 
-    /// The requests of a group for the next epoch, as they stand in the batch that is held: none where none is held.
-    pub fn requests(&self, group: u8) -> &[Txn<Args>]
-        ensures requests { result.now ≡ held_by self.now (record { epoch = self.now.next; group = group }) }
-        ensures at_most { length result.now ≤ 256 }
-    {
-        match self.next {
-            Some(epoch) => self.held.requests(Slot { epoch, group }),
-            None => &[],
-        }
-    }
-
     /// Goes on to the next epoch as `take_epoch` does, for a caller who reads the requests where they stand: none is
     /// copied. Refused with `NotComplete` where a group's batch isn't held for that epoch, as always once no epoch is
     /// left. Batches stay held.
@@ -174,6 +164,15 @@ impl<Args: Copy> Merge<Args> {
             self.ready.reserve(self.held.count(epoch, self.partitions))?;
         }
         Ok(())
+    }
+}
+
+/// The batch that is held for each slot: none is copied.
+impl<Args: Copy> BatchSource<Txn<Args>> for Merge<Args> {
+    ghost assignment = { held_by };
+
+    fn requests(&self, slot: Slot) -> &[Txn<Args>] {
+        self.held.requests(slot)
     }
 }
 

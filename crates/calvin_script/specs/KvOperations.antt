@@ -2,7 +2,7 @@
 --     two_numbers d      the two numbers that follow the name of an operation, and nothing after them
 --     put d, get_of d, add d      each operation
 --     kv_operation d      `["put",k,v]`, `["get",[k, ..]]` or `["add",k,d]`
---     kv_grammar      Kv's name, its operations, and the sets of each on the empty view
+--     kv_grammar      Kv's name, its operations, and the sets of each on the empty view; declared sets are complete
 use Rattle.std.specs.Prelude.{ℕ, ◌^◌, if◌then◌else◌, Option, Some, option_and_then, option_map, is_none, codes, bytes_eq}
 use Rattle.std.specs.FinMap as finmap
 use Rattle.serde_json.specs.Data.{Data}
@@ -13,7 +13,7 @@ use Rattle.calvin_app.specs.declared.kv.KvRequest.TheVariants.{Put, Get, Add}
 use Rattle.calvin_app.specs.Kv.{kv, key_of}
 use Rattle.calvin_script.specs.Spelling.{◌>>=◌, only_if, below}
 use Rattle.calvin_script.specs.KeyLists.{key_set}
-use Rattle.calvin_script.specs.Grammar.{Grammar}
+use Rattle.calvin_script.specs.Grammar.{Grammar, as_declared}
 
 -- a key of table 0, written as its number there
 abbrev pub row_key : Data → Option Key
@@ -46,4 +46,4 @@ kv_operation d = do
   if bytes_eq name (codes "put") then put d else (if bytes_eq name (codes "get") then get_of d else only_if (bytes_eq name (codes "add")) (add d))
 
 abbrev pub kv_grammar : Grammar KvRequest
-kv_grammar = record { app_name = codes "kv"; operation = kv_operation; first_needs = λ a. kv.needs a finmap.empty }
+kv_grammar = record { app_name = codes "kv"; operation = λ _ d. kv_operation d; first_needs = λ a. kv.needs a finmap.empty; completed = as_declared }

@@ -1,3 +1,4 @@
+pub mod Documents
 pub mod Spelling
 pub mod KeyLists
 pub mod Grammar

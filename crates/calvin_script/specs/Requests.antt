@@ -1,19 +1,19 @@
 -- Requests as they are written.
 --     id_of client own_number      a request's name
 --     declared reads writes      the sets that are declared
---     sets_or first reads writes      the declared sets, both or neither, else the first ones
---     has_key sets      there is a key in one of them
+--     sets_of grammar args reads writes      the declared sets, both or neither, completed; else those on the empty view
 --     named grammar id attempt op reads writes      the request of this name and attempt
---     txn_of grammar client own_number op attempt reads writes      the request of these members
---     txn grammar d      `{"client":C,"number":N,"op":OP}`, with optional `"attempt":A` and `"reads":[KEY, ..],"writes":[KEY, ..]`
+--     request_of grammar client own_number op attempt reads writes      the request of these members
+--     request grammar d      `{"client":C,"number":N,"op":OP}`, with optional `"attempt":A` and `"reads":[KEY, ..],"writes":[KEY, ..]`
 --     with_these_alone, with_sets_alone      an object of the three members that every request has;  of these and both sets
-use Rattle.std.specs.Prelude.{ℕ, ◌^◌, ◌&&◌, ◌==◌, List, [], ◌∷◌, length, Bool, not, Option, Some, None, codes}
+use Rattle.std.specs.Prelude.{ℕ, ◌^◌, List, [], ◌∷◌, Option, Some, None, is_some, codes}
 use Rattle.serde_json.specs.Data.{Data, object, no_members, member}
 use Rattle.serde_json.specs.Find.{get}
 use Rattle.calvin_types.specs.declared.key_set.Sets.{Sets}
 use Rattle.calvin_types.specs.declared.place.RequestId.{RequestId}
 use Rattle.calvin_types.specs.declared.txn.Txn.{Txn}
-use Rattle.calvin_script.specs.Spelling.{◌>>=◌, only_if, has_only, below, between, optional}
+use Rattle.calvin_script.specs.declared.contents.Request.{Request}
+use Rattle.calvin_script.specs.Spelling.{◌>>=◌, only_if, has_only, below, optional}
 use Rattle.calvin_script.specs.KeyLists.{key, key_set}
 use Rattle.calvin_script.specs.Grammar.{Grammar}
 
@@ -31,40 +31,39 @@ declared reads writes = do
   written_keys ← key_set key writes
   Some (record { reads = read_keys; writes = written_keys })
 
--- the declared sets, both or neither; where none are, the first ones, those on the empty view
-unfoldable pub sets_or : Sets → Option Data → Option Data → Option Sets
-sets_or first None None = Some first
-sets_or first None (Some writes) = None
-sets_or first (Some reads) None = None
-sets_or first (Some reads) (Some writes) = declared reads writes
+-- the declared sets, both or neither, completed; where none are, those on the empty view
+unfoldable pub sets_of : {Args : Type 0} → Grammar Args → Args → Option Data → Option Data → Option Sets
+sets_of grammar args None None = Some (grammar.first_needs args)
+sets_of grammar args None (Some writes) = None
+sets_of grammar args (Some reads) None = None
+sets_of grammar args (Some reads) (Some writes) = do
+  sets ← declared reads writes
+  grammar.completed args sets
 
--- a request reads or writes something
-abbrev pub has_key : Sets → Bool
-has_key sets = not ((length sets.reads == 0) && (length sets.writes == 0))
-
-abbrev pub txn_names : List (List ℕ)
-txn_names = codes "client" ∷ codes "number" ∷ codes "op" ∷ codes "attempt" ∷ codes "reads" ∷ codes "writes" ∷ []
+abbrev pub request_names : List (List ℕ)
+request_names = codes "client" ∷ codes "number" ∷ codes "op" ∷ codes "attempt" ∷ codes "reads" ∷ codes "writes" ∷ []
 
 -- a request of this name and attempt, from its operation and the sets that may be declared
 unfoldable pub named : {Args : Type 0} → Grammar Args → RequestId → ℕ → Data → Option Data → Option Data → Option (Txn Args)
 named grammar id attempt op reads writes = do
-  args ← grammar.operation op
-  sets ← sets_or (grammar.first_needs args) reads writes
-  only_if (has_key sets) (Some (record { id = id; attempt = attempt; args = args; sets = sets }))
+  args ← grammar.operation id op
+  sets ← sets_of grammar args reads writes
+  Some (record { id = id; attempt = attempt; args = args; sets = sets })
 
 -- a request from the members that every one has, its attempt, and the sets that may be declared
-unfoldable pub txn_of : {Args : Type 0} → Grammar Args → Data → Data → Data → ℕ → Option Data → Option Data → Option (Txn Args)
-txn_of grammar client own_number op attempt reads writes = do
+unfoldable pub request_of : {Args : Type 0} → Grammar Args → Data → Data → Data → ℕ → Option Data → Option Data → Option (Request Args)
+request_of grammar client own_number op attempt reads writes = do
   id ← id_of client own_number
-  named grammar id attempt op reads writes
+  txn ← named grammar id attempt op reads writes
+  Some (record { txn = txn; is_declared = is_some reads })
 
-unfoldable pub txn : {Args : Type 0} → Grammar Args → Data → Option (Txn Args)
-txn grammar d = only_if (has_only txn_names d) (do
+unfoldable pub request : {Args : Type 0} → Grammar Args → Data → Option (Request Args)
+request grammar d = only_if (has_only request_names d) (do
   client ← get (codes "client") d
   own_number ← get (codes "number") d
   op ← get (codes "op") d
-  attempt ← optional 1 (between 1 8) (get (codes "attempt") d)
-  txn_of grammar client own_number op attempt (get (codes "reads") d) (get (codes "writes") d))
+  attempt ← optional 1 (below (2 ^ 8)) (get (codes "attempt") d)
+  request_of grammar client own_number op attempt (get (codes "reads") d) (get (codes "writes") d))
 
 -- an object that has these members and no others
 abbrev pub with_these_alone : Data → Data → Data → Data

@@ -1,42 +1,50 @@
 -- Scripts as they are written, and what they say.
 --     Contents Args      how many partitions there are, and the batches that each epoch lists
---     batch_at contents slot      the batch of the slot's group in the slot's epoch; empty where none is listed
+--     requests_at contents slot      the requests listed for the slot's group in the slot's epoch; none where no batch is
+--     batch_at contents slot      the batch that they are
+--     are_taken requests      a sequencer takes each of them
 --     script grammar d      `{"partitions":P,"app":NAME,"epochs":[[{"group":G,"txns":[TXN, ..]}, ..], ..]}`
 use Rattle.std.specs.Prelude.{ℕ, ◌&&◌, ◌^◌, List, [], ◌∷◌, length, map, Bool, true, not, nat_lt, nat_le, nat_eq, if◌then◌else◌, Option, Some, option_and_then, codes, bytes_eq, get_or}
 use Rattle.std.specs.List.{list_any, list_all}
 use Rattle.serde_json.specs.Data.{Data}
 use Rattle.serde_json.specs.Find.{get, as_str}
+use Rattle.calvin_types.specs.declared.limits.TheConstants.{MOST_REQUESTS}
 use Rattle.calvin_types.specs.declared.place.Slot.{Slot}
 use Rattle.calvin_types.specs.declared.txn.Txn.{Txn}
+use Rattle.calvin_types.specs.Submitting.{is_taken}
+use Rattle.calvin_script.specs.declared.contents.Request.{Request}
 use Rattle.calvin_script.specs.declared.contents.GroupBatch.{GroupBatch}
 use Rattle.calvin_script.specs.declared.contents.Epoch.{Epoch}
 use Rattle.calvin_script.specs.declared.contents.Script.{Script}
 use Rattle.calvin_script.specs.Spelling.{◌>>=◌, only_if, has_only, below, between, list}
 use Rattle.calvin_script.specs.Grammar.{Grammar}
-use Rattle.calvin_script.specs.Requests.{txn}
+use Rattle.calvin_script.specs.Requests.{request}
 
 -- a group, and the batch that is listed for it
 pub record Listed (Args : Type 0) : Type 0 where
   pub group : ℕ
-  pub txns : List (Txn Args)
+  pub requests : List (Request Args)
 
 pub record Contents (Args : Type 0) : Type 0 where
   pub partitions : ℕ
   pub epochs : List (List (Listed Args))
 
 module _ {Args : Type 0} where
-  -- the batch that is listed for a group
-  abbrev pub batch_of : ℕ → List (Listed Args) → List (Txn Args)
-  batch_of group [] = []
-  batch_of group (b ∷ bs) = if nat_eq b.group group then b.txns else batch_of group bs
+  -- the requests that are listed for a group
+  abbrev pub requests_of : ℕ → List (Listed Args) → List (Request Args)
+  requests_of group [] = []
+  requests_of group (b ∷ bs) = if nat_eq b.group group then b.requests else requests_of group bs
+
+  abbrev pub requests_at : Contents Args → Slot → List (Request Args)
+  requests_at contents slot = requests_of slot.group (get_or contents.epochs slot.epoch [])
 
   abbrev pub batch_at : Contents Args → Slot → List (Txn Args)
-  batch_at contents slot = batch_of slot.group (get_or contents.epochs slot.epoch [])
+  batch_at contents slot = map (λ r. r.txn) (requests_at contents slot)
 
   -- ---- values without where they lie in memory
 
   abbrev pub listed : GroupBatch Args → Listed Args
-  listed b = record { group = b.group; txns = b.batch }
+  listed b = record { group = b.group; requests = b.requests.items }
 
   abbrev pub all_listed : Epoch Args → List (Listed Args)
   all_listed e = map listed e.batches.items
@@ -46,12 +54,16 @@ module _ {Args : Type 0} where
 
   -- ---- what is written
 
-  -- `{"group":G,"txns":[TXN, ..]}`, at most 256 requests
+  -- a sequencer takes each of the requests
+  abbrev pub are_taken : List (Request Args) → Bool
+  are_taken requests = list_all (λ r. is_taken r.txn) requests
+
+  -- `{"group":G,"txns":[TXN, ..]}`, at most 256 requests, each of which a sequencer takes
   unfoldable pub batch : Grammar Args → Data → Option (Listed Args)
   batch grammar d = only_if (has_only (codes "group" ∷ codes "txns" ∷ []) d) (do
     group ← option_and_then (below (2 ^ 8)) (get (codes "group") d)
-    txns ← option_and_then (list (txn grammar)) (get (codes "txns") d)
-    only_if (nat_le (length txns) 256) (Some (record { group = group; txns = txns })))
+    requests ← option_and_then (list (request grammar)) (get (codes "txns") d)
+    only_if (nat_le (length requests) MOST_REQUESTS && are_taken requests) (Some (record { group = group; requests = requests })))
 
   -- each group is one of the partitions, and none is listed twice
   abbrev pub groups_fit : ℕ → List (Listed Args) → Bool

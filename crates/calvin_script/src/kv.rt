@@ -8,7 +8,7 @@ use crate::fields::u64_of;
 use crate::key_list::{KeyForm, read_key_set};
 use crate::operation::Operation;
 use calvin_app::KvRequest;
-use calvin_types::{Key, KeySet, Sets};
+use calvin_types::{Key, KeySet, RequestId, Sets};
 use serde_json::Value;
 
 /// A key of table 0, written as its number there.
@@ -64,7 +64,7 @@ impl Operation for KvRequest {
     }
 
     #[tactic(auto, unfolding(crate::specs::KvOperations::kv_operation, crate::specs::KvOperations::put, crate::specs::KvOperations::add))]
-    fn read(&mut self, value: &Value) -> Option<()> {
+    fn read(&mut self, _id: RequestId, value: &Value) -> Option<()> {
         let name = value.get(0)?.as_str()?;
         if name == "put" {
             let (id, number) = two_numbers(value)?;
@@ -84,6 +84,10 @@ impl Operation for KvRequest {
     }
 
     fn add_first_sets(&self, sets: &mut Sets) {
-        self.add_needs(sets);
+        self.add_first_needs(sets);
+    }
+
+    fn complete(&self, _sets: &mut Sets) -> Option<()> {
+        Some(())
     }
 }

@@ -13,10 +13,10 @@ mod reading;
 mod request;
 mod script;
 
-pub use contents::{Epoch, GroupBatch, Script};
+pub use contents::{Epoch, GroupBatch, Request, Script};
 pub use key_list::{KeyForm, WholeKey, read_key_set};
 pub use operation::Operation;
-pub use reading::script_from;
+pub use reading::{AppName, Document, script_from};
 
 #[cfg(test)]
 mod tests;

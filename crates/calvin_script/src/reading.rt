@@ -1,26 +1,67 @@
 //! From bytes to a script.
+ghost use Rattle.std.specs.Prelude.{◌≡◌};
 ghost use Rattle.serde_json.specs.View.{view};
 ghost use Rattle.calvin_script.specs.Scripts.{contents};
 ghost use Rattle.calvin_script.specs.Reading.{Reads, json, script_from};
+ghost use Rattle.calvin_script.specs.Documents.{data_of, app_of, script_in};
 
 use crate::contents::Script;
 use crate::list::ScriptError;
 use crate::operation::Operation;
 use crate::script::script_of;
+use calvin_app::KvRequest;
 use calvin_types::Fault;
 use serde_json::{Category, Value};
 use std::alloc::Global;
 
-#[tactic(auto, using(crate::proofs::Json::json_read, crate::proofs::Json::json_refused))]
-fn json_of(alloc: Global, bytes: &[u8]) -> Result<Value, Fault>
-    ensures { Reads view result (json bytes.now) }
-{
-    match Value::from_slice(alloc, bytes) {
-        Ok(value) => Ok(value),
-        Err(e) => match e.classify() {
-            Category::Memory => Err(Fault::OutOfMemory),
-            _ => Err(Fault::BadJson),
-        },
+/// The applications that scripts can name.
+#[derive(Clone, Copy, Debug, PartialEq, Eq)]
+pub enum AppName {
+    Kv,
+}
+
+/// A piece of JSON that may be a script. Its application has to be known before the rest of it can be read.
+#[derive(Drop)]
+pub struct Document {
+    value: Value,
+}
+
+impl Document {
+    /// The JSON that bytes are. Refused with `BadJson` where they are none, and with `OutOfMemory`.
+    #[tactic(auto, using(crate::proofs::Json::json_read, crate::proofs::Json::json_refused))]
+    pub fn read(alloc: Global, bytes: &[u8]) -> Result<Document, Fault>
+        ensures { Reads data_of result (json bytes.now) }
+    {
+        match Value::from_slice(alloc, bytes) {
+            Ok(value) => Ok(Document { value }),
+            Err(e) => match e.classify() {
+                Category::Memory => Err(Fault::OutOfMemory),
+                _ => Err(Fault::BadJson),
+            },
+        }
+    }
+
+    /// The application that it names, where it names one that there is.
+    pub fn app(&self) -> Option<AppName>
+        ensures { result ≡ app_of (data_of self.now) }
+    {
+        let name = self.value.get("app")?.as_str()?;
+        if name == KvRequest::app_name() {
+            return Some(AppName::Kv);
+        }
+        None
+    }
+
+    /// The script that it is, for an application. Refused with `BadScript` where it doesn't have the form of a script
+    /// for this application, and with `OutOfMemory`.
+    pub fn into_script<Op: Operation>(self, alloc: Global) -> Result<Script<Op>, Fault>
+        ensures { Reads contents result (script_in Op.grammar (data_of self)) }
+    {
+        match script_of(alloc, self.value) {
+            Ok(script) => Ok(script),
+            Err(ScriptError::OutOfMemory) => Err(Fault::OutOfMemory),
+            Err(ScriptError::BadScript) => Err(Fault::BadScript),
+        }
     }
 }
 
@@ -30,10 +71,5 @@ fn json_of(alloc: Global, bytes: &[u8]) -> Result<Value, Fault>
 pub fn script_from<Op: Operation>(alloc: Global, bytes: &[u8]) -> Result<Script<Op>, Fault>
     ensures { Reads contents result (script_from Op.grammar bytes.now) }
 {
-    let value = json_of(alloc, bytes)?;
-    match script_of(alloc, value) {
-        Ok(script) => Ok(script),
-        Err(ScriptError::OutOfMemory) => Err(Fault::OutOfMemory),
-        Err(ScriptError::BadScript) => Err(Fault::BadScript),
-    }
+    Document::read(alloc, bytes)?.into_script(alloc)
 }

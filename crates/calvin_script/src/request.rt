@@ -1,11 +1,12 @@
 //! Requests.
-ghost use Rattle.std.specs.Prelude.{◌≡◌, [], option_map};
+ghost use Rattle.std.specs.Prelude.{◌≡◌, ◌^◌, [], option_map};
 ghost use Rattle.serde_json.specs.View.{view};
-ghost use Rattle.calvin_script.specs.Requests.{id_of, has_key, named, sets_or, txn_of};
+ghost use Rattle.calvin_script.specs.Requests.{id_of, named, sets_of, request_of};
 ghost use Rattle.calvin_script.specs.Gives.{Gives};
-ghost use Rattle.calvin_script.specs.Spelling.{between, optional, then_one};
+ghost use Rattle.calvin_script.specs.Spelling.{below, optional, then_one};
 
-use crate::fields::{between, has_only, u32_of};
+use crate::contents::Request;
+use crate::fields::{has_only, u8_of, u32_of};
 use crate::key_list::{WholeKey, read_key_set};
 use crate::list::{ScriptError, Spelled};
 use crate::members::{Needed, declared_alone, needed_alone};
@@ -23,9 +24,9 @@ fn id_of(client: &Value, number: &Value) -> Option<RequestId>
     Some(RequestId { client, number })
 }
 
-/// Adds the keys of a request to sets that have none: the declared ones, both sets or neither, else those that its
-/// operation needs where no row is known.
-#[tactic(auto, unfolding(crate::specs::Requests::sets_or))]
+/// Adds the keys of a request to sets that have none: the declared ones, both sets or neither, completed by the
+/// application, else those that its operation needs where no row is known.
+#[tactic(auto, unfolding(crate::specs::Requests::sets_of))]
 fn read_sets<Op: Operation>(
     args: &Op,
     reads: Option<&Value>,
@@ -33,7 +34,7 @@ fn read_sets<Op: Operation>(
     sets: &mut Sets,
 ) -> Option<()>
     requires { sets.old ≡ record { reads = []; writes = [] } }
-    ensures { sets_or (Op.grammar.first_needs args.now) (option_map (λ v. view v.now) reads.entry) (option_map (λ v. view v.now) writes.entry)
+    ensures { sets_of Op.grammar args.now (option_map (λ v. view v.now) reads.entry) (option_map (λ v. view v.now) writes.entry)
         ≡ option_map (λ _. sets.new) result }
 {
     match (reads, writes) {
@@ -41,17 +42,11 @@ fn read_sets<Op: Operation>(
         (Some(reads), Some(writes)) => {
             read_key_set::<WholeKey>(reads, &mut sets.reads)?;
             read_key_set::<WholeKey>(writes, &mut sets.writes)?;
+            args.complete(sets)?;
         }
         _ => return None,
     }
     Some(())
-}
-
-/// Whether there is a key in one of the sets.
-fn has_key(sets: &Sets) -> bool
-    ensures { result ≡ has_key sets.now }
-{
-    !(sets.reads.is_empty() && sets.writes.is_empty())
 }
 
 /// Reads the operation and the sets of a request that has its name and its attempt, and no key yet.
@@ -66,24 +61,20 @@ fn read_named<Op: Operation>(
     ensures { named Op.grammar txn.old.id txn.old.attempt (view op.now) (option_map (λ v. view v.now) reads.entry) (option_map (λ v. view v.now) writes.entry)
         ≡ option_map (λ _. txn.new) result }
 {
-    txn.args.read(op)?;
-    read_sets(&txn.args, reads, writes, &mut txn.sets)?;
-    if !has_key(&txn.sets) {
-        return None;
-    }
-    Some(())
+    txn.args.read(txn.id, op)?;
+    read_sets(&txn.args, reads, writes, &mut txn.sets)
 }
 
 /// Puts the request that members spell at the end of a list.
-#[tactic(auto, unfolding(crate::specs::Requests::txn_of))]
+#[tactic(auto, unfolding(crate::specs::Requests::request_of))]
 fn push_request<Op: Operation>(
     needed: Needed<'_>,
     attempt: u8,
     reads: Option<&Value>,
     writes: Option<&Value>,
-    found: &mut Vec<Txn<Op>>,
+    found: &mut Vec<Request<Op>>,
 ) -> Result<(), ScriptError>
-    ensures { Gives (λ _. found.new.items) result (then_one found.old.items (txn_of Op.grammar
+    ensures { Gives (λ _. found.new.items) result (then_one found.old.items (request_of Op.grammar
         (view needed.entry.client.now) (view needed.entry.number.now) (view needed.entry.op.now) attempt
         (option_map (λ v. view v.now) reads.entry) (option_map (λ v. view v.now) writes.entry))) }
 {
@@ -97,35 +88,39 @@ fn push_request<Op: Operation>(
             writes: KeySet::new(),
         },
     };
-    let txn = found.push_mut(blank)?;
-    read_named(txn, needed.op, reads, writes).ok_or(ScriptError::BadScript)
+    let is_declared = reads.is_some();
+    let request = found.push_mut(Request {
+        txn: blank,
+        is_declared,
+    })?;
+    read_named(&mut request.txn, needed.op, reads, writes).ok_or(ScriptError::BadScript)
 }
 
 /// The number of the attempt: 1 where none is given.
 fn attempt_of(attempt: Option<&Value>) -> Option<u8>
-    ensures { result ≡ optional 1 (between 1 8) (option_map (λ v. view v.now) attempt.entry) }
+    ensures { result ≡ optional 1 (below (2 ^ 8)) (option_map (λ v. view v.now) attempt.entry) }
 {
     match attempt {
         None => Some(1),
-        Some(attempt) => between(1, 8, attempt),
+        Some(attempt) => u8_of(attempt),
     }
 }
 
-impl<Op: Operation> Spelled for Txn<Op> {
-    ghost use Rattle.calvin_types.specs.declared.txn.Txn.{Txn};
-    ghost use Rattle.calvin_script.specs.Requests.{txn};
+impl<Op: Operation> Spelled for Request<Op> {
+    ghost use Rattle.calvin_script.specs.declared.contents.Request.{Request};
+    ghost use Rattle.calvin_script.specs.Requests.{request};
 
-    ghost Meaning = { Txn Op };
+    ghost Meaning = { Request Op };
 
-    ghost meaning = { λ t. t };
+    ghost meaning = { λ r. r };
 
-    ghost spelled = { txn Op.grammar };
+    ghost spelled = { request Op.grammar };
 
-    #[tactic(auto, unfolding(crate::specs::Requests::txn), using(crate::proofs::Names::short_txn, crate::proofs::Names::declared_txn))]
+    #[tactic(auto, unfolding(crate::specs::Requests::request), using(crate::proofs::Names::short_request, crate::proofs::Names::declared_request))]
     fn push_json(
         _alloc: Global,
         value: Value,
-        found: &mut Vec<Txn<Op>>,
+        found: &mut Vec<Request<Op>>,
     ) -> Result<(), ScriptError> {
         if let Some(needed) = needed_alone(&value) {
             return push_request(needed, 1, None, None, found);

@@ -2,16 +2,28 @@
 ghost use Rattle.std.specs.Prelude.{◌≡◌, map, nat_eq};
 ghost use Rattle.std.specs.List.{list_all, list_any};
 ghost use Rattle.serde_json.specs.View.{view};
-ghost use Rattle.calvin_script.specs.Scripts.{listed, all_listed, contents, groups_fit, script};
+ghost use Rattle.calvin_script.specs.Scripts.{are_taken, listed, all_listed, contents, groups_fit, script};
 ghost use Rattle.calvin_script.specs.Gives.{Gives};
 
-use crate::contents::{Epoch, GroupBatch, Script};
+use crate::contents::{Epoch, GroupBatch, Request, Script};
 use crate::fields::{between, has_only, u8_of};
 use crate::list::{ScriptError, Spelled, list_of};
 use crate::operation::Operation;
-use calvin_types::{Batch, Fault, MOST_PARTITIONS};
+use calvin_types::{MOST_PARTITIONS, MOST_REQUESTS};
 use serde_json::Value;
 use std::alloc::Global;
+
+/// Whether a sequencer takes each of the requests.
+fn are_taken<Args: Copy>(requests: &[Request<Args>]) -> bool
+    ensures { result ≡ are_taken requests.now }
+{
+    for request in requests {
+        if !request.txn.has_key() || !request.txn.is_in_time() {
+            return false;
+        }
+    }
+    true
+}
 
 impl<Op: Operation> Spelled for GroupBatch<Op> {
     ghost use Rattle.calvin_script.specs.Scripts.{Listed, listed, batch};
@@ -33,13 +45,12 @@ impl<Op: Operation> Spelled for GroupBatch<Op> {
         }
         let group = value.get("group").ok_or(ScriptError::BadScript)?;
         let group = u8_of(group).ok_or(ScriptError::BadScript)?;
-        let txns = value.get_mut("txns").ok_or(ScriptError::BadScript)?.take();
-        let txns = list_of(alloc, txns)?;
-        match Batch::new(alloc, txns) {
-            Ok(batch) => found.push(GroupBatch { group, batch })?,
-            Err(Fault::TooLong) => return Err(ScriptError::BadScript),
-            Err(_) => return Err(ScriptError::OutOfMemory),
+        let requests = value.get_mut("txns").ok_or(ScriptError::BadScript)?.take();
+        let requests = list_of(alloc, requests)?;
+        if requests.len() > MOST_REQUESTS || !are_taken(&requests) {
+            return Err(ScriptError::BadScript);
         }
+        found.push(GroupBatch { group, requests })?;
         Ok(())
     }
 }

@@ -1,6 +1,6 @@
-use crate::{Epoch, GroupBatch, Script, script_from};
+use crate::{AppName, Document, Epoch, GroupBatch, Request, Script, script_from};
 use calvin_app::KvRequest;
-use calvin_types::{Batch, Fault, Key, KeySet, RequestId, Sets, Txn};
+use calvin_types::{Fault, Key, KeySet, MOST_REQUESTS, RequestId, Sets, Txn};
 use std::alloc::{AllocError, Global};
 use std::test::Fail;
 
@@ -346,6 +346,14 @@ pub(crate) fn id(client: u32, number: u32) -> RequestId {
     RequestId { client, number }
 }
 
+/// The batch of a group that has these requests, at most 256.
+fn listed(group: u8, requests: Vec<Request<KvRequest>>) -> Result<GroupBatch<KvRequest>, Fault> {
+    if requests.len() > MOST_REQUESTS {
+        return Err(Fault::TooLong);
+    }
+    Ok(GroupBatch { group, requests })
+}
+
 /// A batch of group 1: a put, a get and an add, without declared sets.
 fn first_batch(alloc: Global) -> Result<GroupBatch<KvRequest>, Fault> {
     let put = Txn {
@@ -376,13 +384,19 @@ fn first_batch(alloc: Global) -> Result<GroupBatch<KvRequest>, Fault> {
             writes: KeySet::of(key(0, 5)),
         },
     };
-    let batch = Batch::new(alloc, vec![in alloc; put, get, add]?)?;
-    Ok(GroupBatch { group: 1, batch })
+    let mut requests = Vec::new(alloc);
+    for txn in [put, get, add] {
+        requests.push(Request {
+            txn,
+            is_declared: false,
+        })?;
+    }
+    listed(1, requests)
 }
 
 /// A batch of group 0: an add with declared sets.
 fn second_batch(alloc: Global) -> Result<GroupBatch<KvRequest>, Fault> {
-    let add = Txn {
+    let txn = Txn {
         id: id(1, 2),
         attempt: 3,
         args: KvRequest::Add(1, 2),
@@ -391,8 +405,12 @@ fn second_batch(alloc: Global) -> Result<GroupBatch<KvRequest>, Fault> {
             writes: KeySet::of(key(0, 9)),
         },
     };
-    let batch = Batch::new(alloc, vec![in alloc; add]?)?;
-    Ok(GroupBatch { group: 0, batch })
+    let mut requests = Vec::new(alloc);
+    requests.push(Request {
+        txn,
+        is_declared: true,
+    })?;
+    listed(0, requests)
 }
 
 #[test]
@@ -407,14 +425,8 @@ fn a_script_in_full(rt: HostRuntime) -> Result<(), Fail> {
         [],
         [{"group":0,"txns":[]}]]}"#;
     let alloc = rt.alloc();
-    let none = Batch::new(alloc, Vec::new(alloc))?;
     let first = vec![in alloc; first_batch(alloc)?, second_batch(alloc)?]?;
-    let last = vec![in alloc;
-        GroupBatch {
-            group: 0,
-            batch: none
-        },
-    ]?;
+    let last = vec![in alloc; listed(0, Vec::new(alloc))?]?;
     let epochs = vec![in alloc;
         Epoch { batches: first },
         Epoch {
@@ -428,5 +440,24 @@ fn a_script_in_full(rt: HostRuntime) -> Result<(), Fail> {
     };
     let found = script_from::<KvRequest>(alloc, text.as_bytes())?;
     assert_eq!(rt; found, expected);
+    Ok(())
+}
+
+#[test]
+fn applications(rt: HostRuntime) -> Result<(), Fail> {
+    for (text, app) in [
+        (r#"{"app":"kv"}"#, Some(AppName::Kv)),
+        (
+            r#"{"epochs":7,"app":"stock","app":"kv"}"#,
+            Some(AppName::Kv),
+        ),
+        (r#"{"app":"KV"}"#, None),
+        (r#"{"app":["kv"]}"#, None),
+        (r#"{"name":"kv"}"#, None),
+        (r#"["app","kv"]"#, None),
+    ] {
+        let document = Document::read(rt.alloc(), text.as_bytes())?;
+        assert_eq!(rt; document.app(), app, "{text}");
+    }
     Ok(())
 }

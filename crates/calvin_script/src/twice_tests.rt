@@ -34,7 +34,8 @@ fn a_name_given_twice(rt: HostRuntime) {
 type Read = Result<Option<Txn<KvRequest>>, Fault>;
 
 fn first_request(script: &Script<KvRequest>) -> Option<Txn<KvRequest>> {
-    script.epochs.get(0)?.batches.get(0)?.batch.get(0)
+    let requests = &script.epochs.get(0)?.batches.get(0)?.requests;
+    Some(requests.get(0)?.txn)
 }
 
 /// The request with these members.

@@ -1,4 +1,3 @@
-pub mod Holdings
-pub mod Joins
-pub mod Results
+pub mod Blanks
+pub mod Requests
 pub mod Runs

@@ -1,30 +1,49 @@
 -- What the engine `serial` writes.
 --     text_of m show script      the lines of the serial run of the script's merged order on no rows, and the last epoch
+--     text_for m grammar show d      the text for the JSON of a script for an application, or why there is none
+--     text_in d      the same for the application that it names
 --     serial_text bytes      the text for the bytes of a script, or why there is none
 --     HasText answer P      there is a text, and it is so
 --     HasBeginning answer old new      a proper beginning of the text went out
 --     Refuses fault answer      why there is no text, where the script is at fault
-use Rattle.std.specs.Prelude.{◌≡◌, ℕ, ◌<◌, List, ◌++◌, length, map, take, if◌then◌else◌, nat_lt, Option, Result, Ok, Err}
+--     IsSerialFault fault      a fault that the engine may end with, whatever its source and its sink are
+use Rattle.std.specs.Prelude.{◌≡◌, ℕ, ◌<◌, List, ◌++◌, length, map, take, if◌then◌else◌, nat_lt, Option, Some, None, Result, Ok, Err}
 use Rattle.std.specs.FinMap.{empty}
 use Rattle.std.specs.Io.KnownBytes.{Appends}
 use Rattle.calvin_types.specs.declared.fault.Fault.{Fault}
 use Rattle.calvin_types.specs.declared.fault.Fault.TheVariants.{OutOfMemory, BadJson, BadScript, ScriptTooLong, ReadFailed, WriteFailed}
+use Rattle.calvin_edge.specs.declared.reading.TheConstants.{MOST_BYTES}
 use Rattle.calvin_app.specs.Meaning.{Meaning}
 use Rattle.calvin_app.specs.Serial.{serial}
 use Rattle.calvin_app.specs.Kv.{kv}
 use Rattle.calvin_order.specs.Merged.{order}
 use Rattle.calvin_script.specs.Scripts.{Contents, batch_at}
-use Rattle.calvin_script.specs.Reading.{and_then, script_from}
+use Rattle.calvin_script.specs.declared.reading.AppName.{AppName}
+use Rattle.calvin_script.specs.declared.reading.AppName.TheVariants.{Kv}
+use Rattle.calvin_script.specs.Documents.{Json, app_of, script_in}
+use Rattle.calvin_script.specs.Grammar.{Grammar}
+use Rattle.calvin_script.specs.Reading.{and_then, json}
 use Rattle.calvin_script.specs.KvOperations.{kv_grammar}
-use Rattle.calvin_serial.specs.Texts.{kv_text, lines, finished}
+use Rattle.calvin_text.specs.Texts.{kv_text, lines, finished}
 
 -- the merged order of all the script's epochs, run one at a time on no rows: a line for each request, and then the last epoch
 abbrev pub text_of : {Args Row Reply : Type 0} → Meaning Args Row Reply → (Reply → List ℕ) → Contents Args → List ℕ
 text_of m show script = let placed = order script.partitions (batch_at script) (length script.epochs) in
     lines show placed (serial m (map (λ e. e.1) placed) empty).1 ++ finished (length script.epochs)
 
+abbrev pub text_for : {Args Row Reply : Type 0} → Meaning Args Row Reply → Grammar Args → (Reply → List ℕ) → Json → Result (List ℕ) Fault
+text_for m grammar show d = and_then (script_in grammar d) (λ script. Ok (text_of m show script))
+
+-- by the application that is named
+abbrev pub text_by : Option AppName → Json → Result (List ℕ) Fault
+text_by None d = Err BadScript
+text_by (Some Kv) d = text_for kv kv_grammar kv_text d
+
+abbrev pub text_in : Json → Result (List ℕ) Fault
+text_in d = text_by (app_of d) d
+
 abbrev pub serial_text : List ℕ → Result (List ℕ) Fault
-serial_text bytes = if nat_lt 1048576 (length bytes) then Err ScriptTooLong else and_then (script_from kv_grammar bytes) (λ script. Ok (text_of kv kv_text script))
+serial_text bytes = if nat_lt MOST_BYTES (length bytes) then Err ScriptTooLong else and_then (json bytes) text_in
 
 abbrev pub HasText : Result (List ℕ) Fault → (List ℕ → Type 0) → Type 0
 HasText (Ok text) P = P text
@@ -41,3 +60,13 @@ Refuses ScriptTooLong answer = answer ≡ Err ScriptTooLong
 Refuses ReadFailed answer = Unit {0}
 Refuses WriteFailed answer = HasText answer (λ _. Unit {0})
 Refuses fault answer = ⊥
+
+-- want of memory, a script that is refused, or a device that failed
+abbrev pub IsSerialFault : Fault → Type 0
+IsSerialFault OutOfMemory = Unit {0}
+IsSerialFault BadJson = Unit {0}
+IsSerialFault BadScript = Unit {0}
+IsSerialFault ScriptTooLong = Unit {0}
+IsSerialFault ReadFailed = Unit {0}
+IsSerialFault WriteFailed = Unit {0}
+IsSerialFault _ = ⊥

@@ -2,8 +2,7 @@
 #![tactic(auto)]
 
 mod engine;
-mod epochs;
-mod printed;
+mod listed;
 mod text;
 
 pub use engine::serial;

@@ -1,2 +1,1 @@
-pub mod NewKeys
-pub mod Sides
+pub mod SortedPairs

@@ -1,3 +1,1 @@
-pub mod Plain
-pub mod Room
-pub mod Tree
+pub mod Kept

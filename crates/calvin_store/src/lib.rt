@@ -1,11 +1,9 @@
-//! The rows of one partition: what a keeper of rows is, snapshots, and a keeper with all rows in one ordered map.
+//! The rows of one partition: what a keeper of rows is, snapshots, and a keeper with all rows in memory.
 #![tactic(auto)]
 
 mod plain;
 mod rows;
 mod snapshot;
-mod stock;
-mod tree;
 
 pub use plain::PlainRows;
 pub use rows::Rows;

@@ -1,5 +1,5 @@
 //! A second keeper, for tests: the pairs in one list, by ascending key.
-ghost use Rattle.std.specs.Prelude.{◌≡◌, ◌+◌, ◌≤◌, IfOk, MatchResult};
+ghost use Rattle.std.specs.Prelude.{◌≡◌, ◌+◌, ◌<◌, ◌≤◌, IfOk, MatchResult};
 ghost use Rattle.std.specs.FinMap as map;
 ghost use Rattle.calvin_app.specs.EntryPlaces.{IsAt, IsMissingAt};
 
@@ -20,7 +20,7 @@ pub(crate) struct ListRows<Row> {
 impl<Row> Model for ListRows<Row> {
     ghost use Rattle.std.specs.Prelude.{◌+◌, ◌≤◌, vec_len, vec_capacity};
     ghost use Rattle.calvin_app.specs.Entries.{shown, rising};
-    ghost use Rattle.calvin_store.specs.Plain.{Kept, coded_kept};
+    ghost use Rattle.calvin_store.specs.Kept.{Kept, coded_kept};
 
     ghost Value = { Kept Row };
 
@@ -32,10 +32,11 @@ impl<Row> Model for ListRows<Row> {
 }
 
 impl<Row: Copy> ListRows<Row> {
+    /// Puts a row under a key. Only a key that has no row uses room up.
     fn put(&mut self, key: Key, row: Row)
-        requires { map.len (map.insert self.old.rows key row) ≤ map.len self.old.rows + self.old.room }
+        requires { 0 < self.old.room }
         ensures rows { self.new.rows ≡ map.insert self.old.rows key row }
-        ensures room { map.len self.new.rows + self.new.room ≡ map.len self.old.rows + self.old.room }
+        ensures room { self.old.room ≤ self.new.room + 1 }
     {
         match place_of(&self.pairs, key) {
             Ok(i) => self.pairs[i] = (key, row),
@@ -48,7 +49,9 @@ impl<Row: Copy> ListRows<Row> {
 }
 
 impl<Row: Copy> Rows<Row> for ListRows<Row> {
-    ghost rows = { λ l. l.rows };
+    ghost use Rattle.calvin_app.specs.Stores.{loaded};
+
+    ghost store = { λ l. loaded l.rows };
 
     ghost room = { λ l. l.room };
 

@@ -1,81 +1,72 @@
-//! A keeper with all rows in one ordered map.
-ghost use Rattle.std.specs.Prelude.{◌≡◌, ◌+◌, ◌-◌, ◌≤◌};
+//! A keeper with all rows in memory.
+ghost use Rattle.std.specs.Prelude.{◌≡◌, ◌-◌, ◌<◌};
 ghost use Rattle.std.specs.FinMap as map;
 
 use crate::rows::Rows;
 use crate::snapshot::Snapshot;
-use crate::stock::Stock;
-use crate::tree::Tree;
 use calvin_app::Writes;
 use calvin_types::{Fault, Key, Place};
 use std::alloc::Global;
+use std::collections::HashMap;
 use std::marker::Model;
 
-/// Rows in one balanced tree: a row is found or written in logarithmic time, and a snapshot is taken or loaded in linear
-/// time.
+/// Rows in one hash map: a row is found or written in expected constant time. A snapshot sorts the rows, and one is loaded
+/// in expected linear time. The hash has a fixed seed: keys that were chosen to collide make it slow and never wrong.
 #[derive(Drop)]
 pub struct PlainRows<Row> {
     alloc: Global,
-    tree: Tree<Row>,
-    len: usize,
-    stock: Stock<Row>,
+    rows: HashMap<Key, Row>,
     room: usize,
 }
 
 impl<Row> Model for PlainRows<Row> {
-    ghost use Rattle.calvin_app.specs.Entries.{shown};
-    ghost use Rattle.calvin_store.specs.Plain.{Kept, coded_kept, IsPlain};
+    ghost use Rattle.std.specs.Prelude.{◌≤◌};
+    ghost use Rattle.std.specs.FinMap.{from_entries};
+    ghost use Rattle.std.specs.HashMap.{spare};
+    ghost use Rattle.calvin_store.specs.Kept.{Kept, coded_kept};
 
     ghost Value = { Kept Row };
 
     ghost coded = { coded_kept Row.code };
 
-    ghost view = { λ p. record { rows = shown p.tree; room = p.room } };
+    ghost view = { λ p. record { rows = from_entries p.rows.entries; room = p.room } };
 
-    ghost invariant = { λ p. IsPlain p.tree p.len p.stock p.room };
+    ghost invariant = { λ p. p.room ≤ spare p.rows };
 }
 
 impl<Row: Copy> PlainRows<Row> {
-    /// How high the tree is.
-    #[cfg(test)]
-    pub(crate) fn height(&self) -> u8 {
-        self.tree.height()
-    }
-
-    /// Puts a row under a key.
+    /// Puts a row under a key, and uses up room for one.
     fn put(&mut self, key: Key, row: Row)
-        requires { map.len (map.insert self.old.rows key row) ≤ map.len self.old.rows + self.old.room }
-        ensures rows { self.new.rows ≡ map.insert self.old.rows key row }
-        ensures room { map.len self.new.rows + self.new.room ≡ map.len self.old.rows + self.old.room }
+        requires { 0 < self.old.room }
+        ensures { self.new ≡ record { rows = map.insert self.old.rows key row; room = self.old.room - 1 } }
     {
-        if self.tree.put(key, row, &mut self.stock) {
-            self.len += 1;
-            self.room -= 1;
-        }
+        let put: Result<_, _> = self.rows.insert(key, row);
+        let _before = put.unwrap();
+        self.room -= 1;
     }
 }
 
 impl<Row: Copy> Rows<Row> for PlainRows<Row> {
-    ghost rows = { λ p. p.rows };
+    ghost use Rattle.calvin_app.specs.Stores.{loaded};
+
+    ghost store = { λ p. loaded p.rows };
 
     ghost room = { λ p. p.room };
 
     fn empty(alloc: Global) -> PlainRows<Row> {
         PlainRows {
             alloc,
-            tree: Tree::new(),
-            len: 0,
-            stock: Stock::new(alloc),
+            rows: HashMap::new(alloc),
             room: 0,
         }
     }
 
     fn len(&self) -> usize {
-        self.len
+        self.rows.len()
     }
 
     fn get(&self, key: &Key) -> Option<Row> {
-        self.tree.get(key)
+        self.rows.get(key).copied()
     }
 
     fn room(&self) -> usize {
@@ -83,14 +74,10 @@ impl<Row: Copy> Rows<Row> for PlainRows<Row> {
     }
 
     fn reserve(&mut self, n: usize) -> Result<(), Fault> {
-        if n <= self.room {
-            return Ok(());
+        if self.room < n {
+            self.rows.reserve(n)?;
+            self.room = n;
         }
-        if self.len.checked_add(n).is_none() {
-            return Err(Fault::OutOfMemory);
-        }
-        self.stock.fill(self.alloc, n)?;
-        self.room = n;
         Ok(())
     }
 
@@ -102,19 +89,19 @@ impl<Row: Copy> Rows<Row> for PlainRows<Row> {
     }
 
     fn snapshot(&self) -> Result<Snapshot<Row>, Fault> {
-        let mut pairs = Vec::with_capacity(self.alloc, self.len)?;
-        self.tree.append_to(&mut pairs)?;
+        let mut pairs: Vec<(Key, Row)> = self
+            .rows
+            .iter()
+            .map(|(key, row)| (*key, *row))
+            .collect(self.alloc)?;
+        pairs.sort_unstable_by(|a, b| a.0.cmp(&b.0));
         Snapshot::new(self.alloc, pairs)
     }
 
     fn load(&mut self, snapshot: &Snapshot<Row>) -> Result<(), Fault> {
-        let pairs = snapshot.pairs();
-        let Some(count) = self.room.checked_add(pairs.len()) else {
-            return Err(Fault::OutOfMemory);
-        };
-        self.stock.fill(self.alloc, count)?;
-        self.tree = Tree::of_pairs(pairs, &mut self.stock);
-        self.len = pairs.len();
+        let mut rows: HashMap<Key, Row> = snapshot.pairs().iter().copied().collect(self.alloc)?;
+        rows.reserve(self.room)?;
+        self.rows = rows;
         Ok(())
     }
 }

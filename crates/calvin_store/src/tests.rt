@@ -1,6 +1,6 @@
 //! Each call once, at two keepers, through functions that know them as keepers alone.
 ghost use Rattle.std.specs.Prelude.{◌≡◌, ◌<◌, OnOk, OnErr};
-ghost use Rattle.calvin_app.specs.Rows.{overwritten};
+ghost use Rattle.calvin_app.specs.Stores.{put_at};
 
 use crate::list_rows::ListRows;
 use crate::{PlainRows, Rows, Snapshot};
@@ -28,36 +28,36 @@ fn writes(pairs: &[(Key, u64)]) -> Result<Writes<u64>, Fault> {
     Ok(writes)
 }
 
-/// Makes room for as many keys as are written, and writes them.
-#[tactic(auto, using(crate::proofs::NewKeys::new_keys_fit))]
+/// Makes room for as many rows as are written, and writes them.
 fn write<S: Rows<u64>>(rows: &mut S, writes: &Writes<u64>) -> Result<(), Fault>
-    ensures ok { OnOk result (S.rows rows.new ≡ overwritten (S.rows rows.old) writes.now) }
-    ensures err { OnErr result (S.rows rows.new ≡ S.rows rows.old) }
+    ensures ok { OnOk result (S.store rows.new ≡ put_at PLACE writes.now (S.store rows.old)) }
+    ensures err { OnErr result (S.store rows.new ≡ S.store rows.old) }
 {
     rows.reserve(writes.len())?;
     rows.put_all(PLACE, writes);
     Ok(())
 }
 
-/// How many rows there are, how much room, and the rows of the keys 1, 5 and 9.
-fn seen<S: Rows<u64>>(rows: &S) -> (usize, usize, [Option<u64>; 3]) {
+/// How many rows there are, and the rows of the keys 1, 5 and 9.
+fn seen<S: Rows<u64>>(rows: &S) -> (usize, [Option<u64>; 3]) {
     let found = [rows.get(&key(1)), rows.get(&key(5)), rows.get(&key(9))];
-    (rows.len(), rows.room(), found)
+    (rows.len(), found)
 }
 
-/// Room for three keys, and writes of two rows each.
+/// Room that is made, and writes of two rows each.
 fn writes_in_turn<S: Rows<u64>>(rt: &impl Abort, rows: &mut S) -> Result<(), Fault> {
-    assert!(rt; seen(rows) == (0, 0, [None, None, None]));
+    assert!(rt; seen(rows) == (0, [None, None, None]));
+    assert_eq!(rt; rows.room(), 0);
     rows.reserve(3)?;
     rows.reserve(2)?;
+    assert!(rt; rows.room() >= 3);
     for (first, second, want) in [
         // Both keys are new.
-        ((5, 50), (1, 10), (2, 1, [Some(10), Some(50), None])),
-        // A key that has a row uses no room up.
-        ((5, 51), (1, 11), (2, 2, [Some(11), Some(51), None])),
-        ((1, 12), (9, 90), (3, 1, [Some(12), Some(51), Some(90)])),
+        ((5, 50), (1, 10), (2, [Some(10), Some(50), None])),
+        ((5, 51), (1, 11), (2, [Some(11), Some(51), None])),
+        ((1, 12), (9, 90), (3, [Some(12), Some(51), Some(90)])),
         // Of two rows under one key the later is written.
-        ((9, 91), (9, 92), (3, 1, [Some(12), Some(51), Some(92)])),
+        ((9, 91), (9, 92), (3, [Some(12), Some(51), Some(92)])),
     ] {
         let pairs = [(key(first.0), first.1), (key(second.0), second.1)];
         write(rows, &writes(&pairs)?)?;
@@ -82,7 +82,7 @@ fn goes_back<S: Rows<u64>>(
     assert!(rt; rows.len() == 5);
     assert!(rt; !stands_at(rows, snapshot)?);
     rows.load(snapshot)?;
-    assert!(rt; seen(rows) == (4, 1, [Some(12), Some(51), Some(92)]));
+    assert!(rt; seen(rows) == (4, [Some(12), Some(51), Some(92)]));
     assert!(rt; rows.get(&key(6)).is_none());
     assert!(rt; stands_at(rows, snapshot)?);
     Ok(())
@@ -180,7 +180,6 @@ fn play<S: Rows<u64>>(
         }
     }
     told.push(rows.len() as u64)?;
-    told.push(rows.room() as u64)?;
     told.push(rows.get(&draws.key()).unwrap_or(1000))?;
     Ok(())
 }
@@ -204,7 +203,7 @@ fn both_keepers_answer_alike(rt: HostRuntime) -> Result<(), Fail> {
     let alloc = rt.alloc();
     let plain = played::<PlainRows<u64>>(alloc, 3000)?;
     let list = played::<ListRows<u64>>(alloc, 3000)?;
-    assert!(rt; plain.len() > 9000);
+    assert!(rt; plain.len() > 6000);
     assert!(rt; plain.as_slice() == list.as_slice());
     Ok(())
 }
@@ -229,32 +228,6 @@ fn leaves_all<S: Rows<u64> + Drop>(rt: &impl Abort, alloc: Global) -> Result<(),
 fn refusals_leave_everything(rt: HostRuntime) -> Result<(), Fail> {
     leaves_all::<PlainRows<u64>>(&rt, rt.alloc())?;
     leaves_all::<ListRows<u64>>(&rt, rt.alloc())?;
-    Ok(())
-}
-
-/// No contract speaks of heights: a tree that were not kept in balance would only be slow.
-#[test]
-fn heights_stay_logarithmic(rt: HostRuntime) -> Result<(), Fail> {
-    let alloc = rt.alloc();
-    for order in 0..3 {
-        let mut rows: PlainRows<u64> = Rows::empty(alloc);
-        for i in 0..1000 {
-            // Ascending, descending, and from both ends.
-            let id = match order {
-                0 => i,
-                1 => 999 - i,
-                _ => { if i % 2 == 0 { i } else { 1000 - i } }
-            };
-            write(&mut rows, &Writes::of(key(id), i))?;
-        }
-        assert_eq!(rt; rows.len(), 1000);
-
-        // A tree of 1000 keys whose sides' heights differ by one at most has 14 levels at most.
-        assert!(rt; rows.height() <= 14);
-        let snapshot = rows.snapshot()?;
-        rows.load(&snapshot)?;
-        assert_eq!(rt; rows.height(), 10);
-    }
     Ok(())
 }
 

@@ -10,3 +10,6 @@ pub mod ProposalMaps
 pub mod Bounds
 pub mod Voters
 pub mod Reported
+pub mod Growing
+pub mod Giving
+pub mod Proposing

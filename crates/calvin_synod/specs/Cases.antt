@@ -1,4 +1,6 @@
 -- What one replica makes of a message or an event of its group's synods: its data after it, what it sends, and what its learner gives.
+--     slot_of message      which slot a message is about
+--     message_grows message      what handles it keeps or sends more, so that memory may be wanting: all but a refusal
 --     Replica B      the data of one replica, by role
 --     Letters B      what is sent in one step: nothing, one message to one replica, or one to all
 --     Deed B      a refusal, or the data after the step, what is sent, and the batch that the learner gives for a slot, if any
@@ -6,7 +8,7 @@
 --     propose size me slot batch x      what it makes of a batch to propose
 --     restart x      what it is after a restart
 --     fresh      what it is at first
-use Rattle.std.specs.Prelude.{ℕ, ◌+◌, ◌^◌, Option, Some, None, nat_lt, if◌then◌else◌, max}
+use Rattle.std.specs.Prelude.{ℕ, Bool, true, false, ◌+◌, ◌^◌, Option, Some, None, nat_lt, if◌then◌else◌, max}
 use Rattle.std.specs.FinMap.{empty}
 use Rattle.calvin_types.specs.declared.place.Ballot.{Ballot}
 use Rattle.calvin_types.specs.declared.place.Slot.{Slot}
@@ -25,6 +27,11 @@ slot_of (Promise slot ballot vote) = slot
 slot_of (Accept slot ballot batch) = slot
 slot_of (Refused slot ballot promise) = slot
 slot_of (Accepted slot ballot batch) = slot
+
+-- where a message takes effect, a promise, a vote, a report or a count is kept, or a message is sent; a refusal raises a number alone
+abbrev pub message_grows : {B : Type 0} → Message B → Bool
+message_grows (Refused slot ballot promise) = false
+message_grows _ = true
 
 -- the data of one replica, by role
 pub record Replica (B : Type 0) : Type 0 where

@@ -7,6 +7,8 @@ mod attempt;
 mod by_slot;
 mod highest;
 mod learner;
+mod mail;
+mod member;
 mod message;
 mod proposer;
 mod quorum;
@@ -15,9 +17,8 @@ mod vote;
 
 pub use acceptor::Acceptor;
 pub use learner::Learner;
+pub use mail::{Given, Mail};
+pub use member::Member;
 pub use message::Message;
 pub use proposer::Proposer;
 pub use vote::{Recorded, Vote};
-
-#[cfg(test)]
-mod tests;

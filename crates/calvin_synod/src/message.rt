@@ -1,9 +1,12 @@
 //! What the replicas of a group tell one another.
+ghost use Rattle.std.specs.Prelude.{◌≡◌, false, IfOk, IsOk, IsOkUnless};
+ghost use Rattle.calvin_synod.specs.Cases.{message_grows};
+
 use crate::vote::Vote;
-use calvin_types::{Ballot, Slot};
+use calvin_types::{Ballot, Batch, Fault, Slot};
 
 /// A message about one slot ("Paxos Made Simple", section 2.2, phases 1a, 1b, 2a and 2b).
-#[derive(Debug, Drop, PartialEq, Eq)]
+#[derive(Clone, Debug, Drop, PartialEq, Eq)]
 pub enum Message<B> {
     /// Phase 1a: asks for a promise.
     Prepare {
@@ -34,4 +37,15 @@ pub enum Message<B> {
         ballot: Ballot,
         batch: B,
     },
+}
+
+impl<Args: Copy> Message<Batch<Args>> {
+    /// A copy, whose batch shares the memory. Refused with `OutOfMemory` where the batch can have no more owners.
+    pub fn copy(&self) -> Result<Message<Batch<Args>>, Fault>
+        ensures ok { IfOk result (λ m. m ≡ self.now) }
+        ensures only { IsOkUnless result Fault.OutOfMemory }
+        ensures succeeds { message_grows self.now ≡ false → IsOk result }
+    {
+        Ok(self.clone()?)
+    }
 }

@@ -3,7 +3,7 @@ use calvin_types::Ballot;
 
 /// A batch, and the ballot at which it is voted for ("Paxos Made Simple", section 2.2: a proposal that an acceptor has
 /// accepted, with its number).
-#[derive(Debug, Drop, PartialEq, Eq)]
+#[derive(Clone, Debug, Drop, PartialEq, Eq)]
 pub struct Vote<B> {
     pub ballot: Ballot,
     pub batch: B,

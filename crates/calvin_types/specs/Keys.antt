@@ -15,6 +15,7 @@ use Rattle.std.specs.declared.cmp.Ordering.TheVariants.{Less, Equal, Greater}
 use Rattle.std.specs.Ordering.{nat_cmp, ordering_then, is_lt, is_eq, eq_by_cmp}
 use Rattle.std.specs.List.{list_any}
 use Rattle.calvin_types.specs.declared.key.Key.{Key}
+use Rattle.calvin_types.specs.declared.limits.TheConstants.{MOST_KEYS}
 
 -- by table, and then by id
 abbrev pub key_cmp : Key → Key → Ordering
@@ -60,7 +61,7 @@ are_distinct keys = length (insert_all keys []) == length keys
 
 -- whether a set of at most sixteen keys takes one more: a new one, for which there is room
 abbrev pub takes : Key → List Key → Bool
-takes q ks = nat_lt (length ks) (length (insert_key q ks)) && nat_le (length (insert_key q ks)) 16
+takes q ks = nat_lt (length ks) (length (insert_key q ks)) && nat_le (length (insert_key q ks)) MOST_KEYS
 
 -- the partition, of so many, that stores a key
 abbrev pub partition_of : ℕ → Key → ℕ

@@ -1,4 +1,5 @@
 pub mod Codes
+pub mod Deeds
 pub mod Exact
 pub mod Faults
 pub mod Few
@@ -11,3 +12,4 @@ pub mod Orders
 pub mod Participants
 pub mod Places
 pub mod SameKeys
+pub mod Submitting

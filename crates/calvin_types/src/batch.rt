@@ -3,13 +3,11 @@
 ghost use Rattle.std.specs.Prelude.{◌≡◌, ◌≤◌, ◌<◌, ◌↔◌, ◌⊎◌, length, IfErr, IfOk, IsErrOf, slice_get, IsOkUnless};
 
 use crate::fault::Fault;
+use crate::limits::MOST_REQUESTS;
 use crate::shared::Shared;
 use crate::txn::Txn;
-use std::alloc::Global;
+use std::alloc::{AllocError, Global};
 use std::marker::Model;
-
-/// The most requests of a batch.
-pub const MOST_REQUESTS: usize = 256;
 
 /// At most 256 requests in order, which contracts see as a list. None can be changed, added or taken away.
 #[derive(Debug, Drop, PartialEq, Eq)]
@@ -20,14 +18,26 @@ pub struct Batch<Args> {
 impl<Args> Model for Batch<Args> {
     ghost use Rattle.calvin_types.specs.declared.txn.Txn.{Txn};
     ghost use Rattle.std.specs.Prelude.{List, length, ◌≤◌};
+    ghost use Rattle.calvin_types.specs.declared.limits.TheConstants.{MOST_REQUESTS};
 
     ghost Value = { List (Txn Args) };
 
     ghost view = { λ b. b.txns };
 
-    ghost invariant = { λ b. length b.txns ≤ 256 };
+    ghost invariant = { λ b. length b.txns ≤ MOST_REQUESTS };
 
     ghost inverse = { λ txns. record { txns = txns } };
+}
+
+impl<Args: Copy> Clone for Batch<Args> {
+    ghost use Rattle.std.specs.Prelude.{◌≡◌};
+
+    ghost is_clone = { λ x y. y ≡ x };
+
+    fn clone(&self) -> Result<Batch<Args>, AllocError> {
+        let txns = self.txns.share()?;
+        Ok(Batch { txns })
+    }
 }
 
 impl<Args: Copy> Batch<Args> {
@@ -35,7 +45,7 @@ impl<Args: Copy> Batch<Args> {
     /// `OutOfMemory` where the word that counts the owners can't be had.
     pub fn new(alloc: Global, txns: Vec<Txn<Args>>) -> Result<Batch<Args>, Fault>
         ensures ok { IfOk result (λ b. b ≡ txns.items) }
-        ensures long { IsErrOf result Fault.TooLong ↔ (256 < length txns.items) }
+        ensures long { IsErrOf result Fault.TooLong ↔ (MOST_REQUESTS < length txns.items) }
         ensures faults { IfErr result (λ fault. (fault ≡ Fault.TooLong) ⊎ (fault ≡ Fault.OutOfMemory)) }
     {
         if txns.len() > MOST_REQUESTS {
@@ -48,7 +58,7 @@ impl<Args: Copy> Batch<Args> {
     /// How many requests there are.
     pub fn len(&self) -> usize
         ensures len { result ≡ length self.now }
-        ensures at_most { length self.now ≤ 256 }
+        ensures at_most { length self.now ≤ MOST_REQUESTS }
     {
         self.txns.as_slice().len()
     }
@@ -73,7 +83,6 @@ impl<Args: Copy> Batch<Args> {
         ensures ok { IfOk result (λ b. b ≡ self.now) }
         ensures err { IsOkUnless result Fault.OutOfMemory }
     {
-        let txns = self.txns.share()?;
-        Ok(Batch { txns })
+        Ok(self.clone()?)
     }
 }

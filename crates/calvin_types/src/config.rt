@@ -5,12 +5,7 @@ ghost use Rattle.calvin_types.specs.Limits.{IsInRange};
 
 use crate::fault::Fault;
 use crate::key::Key;
-
-/// The most partitions of a replica.
-pub const MOST_PARTITIONS: u8 = 16;
-
-/// The most replicas.
-pub const MOST_REPLICAS: u8 = 7;
+use crate::limits::{MOST_PARTITIONS, MOST_REPLICAS};
 
 /// The numbers of partitions (1 to 16) and of replicas (1 to 7). Each replica holds every partition, each on a node of
 /// its own (Thomson et al. 2012, section 3).

@@ -3,14 +3,15 @@ ghost use Rattle.std.specs.Prelude.{◌≡◌, ◌≤◌, ◌<◌, ◌+◌, [], 
 ghost use Rattle.std.specs.List.{insert};
 
 use crate::key::Key;
+use crate::limits::MOST_KEYS;
 use std::marker::Model;
 
 /// At most sixteen keys, which contracts see as their list. Tables and numbers stand apart, so that a key takes nine
 /// bytes and not sixteen; unused places are zero.
 #[derive(Clone, Copy, Debug)]
 pub(crate) struct KeyList {
-    tables: [u8; 16],
-    ids: [u64; 16],
+    tables: [u8; MOST_KEYS],
+    ids: [u64; MOST_KEYS],
     size: usize,
 }
 
@@ -62,8 +63,8 @@ impl KeyList {
         ensures { result ≡ [] }
     {
         KeyList {
-            tables: [0; 16],
-            ids: [0; 16],
+            tables: [0; MOST_KEYS],
+            ids: [0; MOST_KEYS],
             size: 0,
         }
     }
@@ -82,7 +83,7 @@ impl KeyList {
     /// How many keys there are.
     pub(crate) fn len(&self) -> usize
         ensures len { result ≡ length self.now }
-        ensures at_most { length self.now ≤ 16 }
+        ensures at_most { length self.now ≤ MOST_KEYS }
     {
         self.size
     }
@@ -102,7 +103,7 @@ impl KeyList {
 
     /// Puts a key at the end.
     pub(crate) fn push(&mut self, key: Key)
-        requires { length self.old < 16 }
+        requires { length self.old < MOST_KEYS }
         ensures { self.new ≡ self.old ++ key ∷ [] }
     {
         let size = self.size;
@@ -125,7 +126,7 @@ impl KeyList {
     /// Puts a key behind the first `i`, and moves those that follow by one.
     pub(crate) fn insert(&mut self, i: usize, key: Key)
         requires at_most { i ≤ length self.old }
-        requires room { length self.old < 16 }
+        requires room { length self.old < MOST_KEYS }
         ensures { self.new ≡ insert self.old i key }
     {
         let mut carried = key;

@@ -9,10 +9,8 @@ use crate::config::Config;
 use crate::fault::Fault;
 use crate::key::Key;
 use crate::key_list::KeyList;
+use crate::limits::MOST_KEYS;
 use std::marker::Model;
-
-/// The most keys of a set.
-pub const MOST_KEYS: usize = 16;
 
 /// A set of at most sixteen keys, which contracts see as the list of its keys, rising. It stands in the value itself,
 /// so copying it allocates nothing.
@@ -57,7 +55,7 @@ impl KeySet {
     /// How many keys there are.
     pub fn len(&self) -> usize
         ensures len { result ≡ length self.now }
-        ensures at_most { length self.now ≤ 16 }
+        ensures at_most { length self.now ≤ MOST_KEYS }
         ensures rising { IsTrue (rises self.now) }
     {
         self.keys.len()
@@ -101,16 +99,27 @@ impl KeySet {
         ensures ok { OnOk result (self.new ≡ insert_key key self.old) }
         ensures err { OnErr result (self.new ≡ self.old) }
         ensures only { IsOkUnless result Fault.TooManyKeys }
-        ensures full { IsErr result ↔ (16 < length (insert_key key self.old)) }
-        ensures at_most { length self.new ≤ 16 }
+        ensures full { IsErr result ↔ (MOST_KEYS < length (insert_key key self.old)) }
+        ensures at_most { length self.new ≤ MOST_KEYS }
     {
         if let Some(i) = free_place(&self.keys, key) {
             if self.keys.len() == MOST_KEYS {
                 return Err(Fault::TooManyKeys);
             }
-            self.keys.insert(i, key);
+            self.put(i, key);
         }
         Ok(())
+    }
+
+    /// Adds a key to fewer than sixteen, unless it is there.
+    pub fn grow(&mut self, key: Key)
+        requires { length self.old < MOST_KEYS }
+        ensures { self.new ≡ insert_key key self.old }
+    {
+        match free_place(&self.keys, key) {
+            Some(i) => self.put(i, key),
+            None => {}
+        }
     }
 
     /// Adds a key and says so, where it isn't there yet and there are fewer than sixteen; else the set stays as it is.
@@ -118,22 +127,31 @@ impl KeySet {
         ensures whether { result ≡ takes key self.old }
         ensures added { IsTrue result → self.new ≡ insert_key key self.old }
         ensures kept { result ≡ false → self.new ≡ self.old }
-        ensures at_most { length self.new ≤ 16 }
+        ensures at_most { length self.new ≤ MOST_KEYS }
     {
         match free_place(&self.keys, key) {
             Some(i) if self.keys.len() < MOST_KEYS => {
-                self.keys.insert(i, key);
+                self.put(i, key);
                 true
             }
             _ => false,
         }
     }
 
+    /// Puts a key that is missing at its place, for which there is room.
+    fn put(&mut self, i: usize, key: Key)
+        requires missing { IsMissingAt key self.old i }
+        requires room { length self.old < MOST_KEYS }
+        ensures { self.new ≡ insert_key key self.old }
+    {
+        self.keys.insert(i, key);
+    }
+
     /// The keys of both sets. Refused with `TooManyKeys` where these are more than sixteen.
     pub fn union(&self, other: &KeySet) -> Result<KeySet, Fault>
         ensures ok { IfOk result (λ all. all ≡ insert_all other.now self.now) }
         ensures only { IsOkUnless result Fault.TooManyKeys }
-        ensures full { IsErr result ↔ (16 < length (insert_all other.now self.now)) }
+        ensures full { IsErr result ↔ (MOST_KEYS < length (insert_all other.now self.now)) }
     {
         let mut all = *self;
         let _size = all.len();
@@ -160,7 +178,7 @@ impl KeySet {
     /// The keys of a table.
     pub fn of_table(&self, table: u8) -> KeySet
         ensures keys { result ≡ filter (λ k. k.table == table) self.now }
-        ensures at_most { length result ≤ 16 }
+        ensures at_most { length result ≤ MOST_KEYS }
     {
         let mut keys = KeyList::new();
         for i in 0..self.keys.len() {
@@ -200,9 +218,9 @@ impl KeySet {
     /// `Repeated` where one comes twice.
     pub fn from_slice(keys: &[Key]) -> Result<KeySet, Fault>
         ensures ok { IfOk result (λ all. all ≡ insert_all keys.now []) }
-        ensures many { IsErrOf result Fault.TooManyKeys ↔ (16 < length keys.now) }
+        ensures many { IsErrOf result Fault.TooManyKeys ↔ (MOST_KEYS < length keys.now) }
         ensures only { IfErr result (λ fault. (fault ≡ Fault.TooManyKeys) ⊎ (fault ≡ Fault.Repeated)) }
-        ensures repeated { IsErrOf result Fault.Repeated ↔ ((length keys.now ≤ 16) × (are_distinct keys.now ≡ false)) }
+        ensures repeated { IsErrOf result Fault.Repeated ↔ ((length keys.now ≤ MOST_KEYS) × (are_distinct keys.now ≡ false)) }
     {
         if keys.len() > MOST_KEYS {
             return Err(Fault::TooManyKeys);

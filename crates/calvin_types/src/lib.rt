@@ -10,21 +10,18 @@ mod few;
 mod key;
 mod key_list;
 mod key_set;
+mod limits;
 mod place;
 mod shared;
 mod txn;
 
-pub use batch::{Batch, MOST_REQUESTS};
-pub use config::{Config, MOST_PARTITIONS, MOST_REPLICAS};
+pub use batch::Batch;
+pub use config::Config;
 pub use fault::Fault;
 pub use few::Few;
 pub use key::Key;
-pub use key_set::{KeySet, MOST_KEYS, Sets};
-pub use place::{Ballot, NodeId, Place, RequestId, Slot};
+pub use key_set::{KeySet, Sets};
+pub use limits::{MOST_ATTEMPTS, MOST_KEYS, MOST_PARTITIONS, MOST_REPLICAS, MOST_REQUESTS};
+pub use place::{Ballot, NodeId, Place, RequestId, Slot, orders_are};
 pub use shared::Shared;
 pub use txn::Txn;
-
-#[cfg(test)]
-mod batch_tests;
-#[cfg(test)]
-mod tests;

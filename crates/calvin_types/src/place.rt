@@ -1,4 +1,6 @@
 //! The names of requests, places, slots, ballots and nodes, each ordered by its fields in turn.
+ghost use Rattle.std.specs.Prelude.{◌≡◌};
+ghost use Rattle.calvin_types.specs.Places.{place_cmp, slot_cmp, ballot_cmp, node_cmp};
 
 /// The name of a request: its client, and the client's own number for it. New attempts at a request keep its name.
 #[derive(Clone, Copy, Debug, PartialEq, Eq, PartialOrd, Ord, Hash)]
@@ -37,3 +39,12 @@ pub struct NodeId {
     pub replica: u8,
     pub partition: u8,
 }
+
+/// Places, slots, ballots and nodes compare in code as their definitions say, so that what a generic map or search does
+/// by `Ord` is by these orders.
+pub fn orders_are()
+    ensures places { (a b : Place) → ⟦<Place as Ord>⟧.cmp a b ≡ place_cmp a b }
+    ensures slots { (a b : Slot) → ⟦<Slot as Ord>⟧.cmp a b ≡ slot_cmp a b }
+    ensures ballots { (a b : Ballot) → ⟦<Ballot as Ord>⟧.cmp a b ≡ ballot_cmp a b }
+    ensures nodes { (a b : NodeId) → ⟦<NodeId as Ord>⟧.cmp a b ≡ node_cmp a b }
+{}

@@ -67,6 +67,10 @@ impl App for Follow {
 
     ghost rows_fit = { lit< tt };
 
+    ghost job_fits = { lit< tt };
+
+    ghost work_fits = { lit< tt };
+
     ghost args_exact = { numbers_exact };
 
     ghost rows_exact = { numbers_exact };

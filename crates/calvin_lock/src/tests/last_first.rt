@@ -16,11 +16,9 @@ use std::marker::Model;
 pub struct LastFirst {
     requests: Vec<(Place, Sets)>,
     last: Option<Place>,
-    room: usize,
 }
 
 impl Model for LastFirst {
-    ghost use Rattle.std.specs.Prelude.{◌+◌, ◌≤◌, vec_len, vec_capacity};
     ghost use Rattle.std.specs.FinMap.{from_entries};
     ghost use Rattle.calvin_lock.specs.Locking.{Locking};
     ghost use Rattle.calvin_lock.specs.LocksCode.{coded_locking};
@@ -30,9 +28,9 @@ impl Model for LastFirst {
 
     ghost coded = { coded_locking };
 
-    ghost view = { λ l. record { requested = from_entries l.requests.items; last = l.last; room = l.room } };
+    ghost view = { λ l. record { requested = from_entries l.requests.items; last = l.last } };
 
-    ghost invariant = { λ l. IsInOrder l.requests.items l.last × (vec_len l.requests + l.room ≤ vec_capacity l.requests) };
+    ghost invariant = { λ l. IsInOrder l.requests.items l.last };
 }
 
 /// How many requests are before that of a place.
@@ -65,7 +63,6 @@ impl Locks for LastFirst {
         LastFirst {
             requests: Vec::new(alloc),
             last: None,
-            room: 0,
         }
     }
 
@@ -75,24 +72,14 @@ impl Locks for LastFirst {
         } else if reads.is_empty() && writes.is_empty() {
             Err(Fault::NoKeys)
         } else {
-            self.reserve_request()?;
             let sets = Sets {
                 reads: *reads,
                 writes: *writes,
             };
-            self.requests.push((place, sets)).unwrap();
+            self.requests.push((place, sets))?;
             self.last = Some(place);
-            self.room -= 1;
             Ok(())
         }
-    }
-
-    fn reserve_request(&mut self) -> Result<(), Fault> {
-        if self.room == 0 {
-            self.requests.reserve(1)?;
-            self.room = 1;
-        }
-        Ok(())
     }
 
     fn is_ready(&self, place: Place) -> bool {
@@ -105,6 +92,10 @@ impl Locks for LastFirst {
         };
         let _released = self.requests.remove(i);
         Ok(())
+    }
+
+    fn up_to_last(&self) {
+        let _last = self.last;
     }
 
     fn first_ready(&self, after: Option<Place>) -> Option<Place> {

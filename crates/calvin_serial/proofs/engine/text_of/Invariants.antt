@@ -3,8 +3,7 @@ use Rattle.std.specs.FinMap.{empty}
 use Rattle.calvin_app.specs.Serial as spec
 use Rattle.calvin_order.specs.Merged.{stretch, order}
 use Rattle.calvin_script.specs.Scripts.{contents, batch_at}
-use Rattle.calvin_serial.specs.Holding.{HoldsOnly}
-use Rattle.calvin_serial.specs.Texts.{lines}
+use Rattle.calvin_text.specs.Texts.{lines}
 use Rattle.calvin_serial.proofs.engine.text_of.Given as goal
 
 -- the lines so far and those of the epochs to come are those of all epochs
@@ -15,8 +14,5 @@ invariant-loop-epoch g l =
     let B = batch_at (contents l.script) in
     let parts = l.script.partitions in
     let n = length l.script.epochs.items in
-    record {
-      merge : HoldsOnly B parts l.epoch l.merge;
-      text : l.text.items ++ lines show (stretch parts B l.epoch (n - l.epoch)) (spec.serial m (map (λ e. e.1) (stretch parts B l.epoch (n - l.epoch))) l.store).1
-          ≡ lines show (order parts B n) (spec.serial m (map (λ e. e.1) (order parts B n)) empty).1;
-    }
+    l.text.items ++ lines show (stretch parts B l.epoch (n - l.epoch)) (spec.serial m (map (λ e. e.1) (stretch parts B l.epoch (n - l.epoch))) l.store).1
+    ≡ lines show (order parts B n) (spec.serial m (map (λ e. e.1) (order parts B n)) empty).1

@@ -1,36 +1,47 @@
-use Rattle.std.proofs.Common.{◌∙◌, ap, sym, length, map, arith, ◌≡◌, ◌++◌, ℕ}
+use Rattle.std.proofs.Common.{◌++◌, sym, ap, ◌∙◌, map, vec_len, append-nil, arith}
+use Rattle.std.proofs.lemmas.Bool.{eqb-true}
 use Rattle.calvin_app.specs.Serial.{serial}
-use Rattle.calvin_order.specs.Merged.{merged}
-use Rattle.calvin_order.specs.Merging.{held_by}
-use Rattle.calvin_order.proofs.Joining.{length_next}
-use Rattle.calvin_serial.specs.Texts.{lines}
-use Rattle.calvin_serial.proofs.Runs.{group_lines, group_rows}
+use Rattle.calvin_script.specs.Scripts.{contents}
+use Rattle.calvin_text.specs.Texts.{line, lines}
+use Rattle.calvin_serial.proofs.Blanks.{none_listed}
+use Rattle.calvin_serial.proofs.Requests.{placed_txn, txns_merged}
+use Rattle.calvin_serial.proofs.Runs.{one_line, one_row}
 use Rattle.calvin_serial.proofs.text.push_epoch.Goals as goal
 
-pub loop-group-preserved : goal.loop-group-preserved
-loop-group-preserved g c =
+pub returns-then-is_empty-clause-lines : goal.returns-then-is_empty-clause-lines
+returns-then-is_empty-clause-lines g c =
+    let m = g.A.App.meaning in
+    let none = eqb-true (vec_len c.index.result.now.batches) 0 (sym c.is_empty.ensures ∙ c.if-is_empty.true) in
+    let nothing = none_listed c.args.script.now c.args.epoch c.index.result.now c.requires.within c.index.ensures (omega (arith, none, c.index.result.now.batches.ok.0)) in
+    sym (append-nil c.args.text.now.items) ∙ ap (λ placed. c.args.text.now.items ++ lines g.A.Reply.Printed.printed placed (serial m (map (λ e. e.1) placed) c.args.store.now).1) (sym nothing)
+
+pub returns-then-is_empty-clause-rows : goal.returns-then-is_empty-clause-rows
+returns-then-is_empty-clause-rows g c =
+    let none = eqb-true (vec_len c.index.result.now.batches) 0 (sym c.is_empty.ensures ∙ c.if-is_empty.true) in
+    let nothing = none_listed c.args.script.now c.args.epoch c.index.result.now c.requires.within c.index.ensures (omega (arith, none, c.index.result.now.batches.ok.0)) in
+    ap (λ placed. (serial g.A.App.meaning (map (λ e. e.1) placed) c.args.store.now).0) (sym nothing)
+
+pub loop-place-init : goal.loop-place-init
+loop-place-init g c =
     let m = g.A.App.meaning in
     let show = g.A.Reply.Printed.printed in
-    let B = held_by c.args.merge.now in
-    let given = c.requests-txns.ensures.requests ∙ ap (λ (e : ℕ). B (record { epoch = e; group = c.loop-group.group })) (sym c.requires.next) in
-    let more = length_next B c.args.epoch c.loop-group.group in
-    let added = ap length given in
+    let all = ap (map placed_txn) (c.into_iter-place-iterator.ensures.into_iter_gives ∙ c.new-place-items.ensures) ∙ txns_merged (contents c.args.script.now) c.args.epoch in
     record {
-      text = group_lines m show B c.args.epoch c.loop-group.group c.loop-group.n c.loop-group.invariant.number c.requests-txns.result.now given c.args.store.now c.loop-group.store c.push_batch.new.store c.loop-group.invariant.rows c.args.text.now.items c.loop-group.text.items c.push_batch.new.text.items c.loop-group.invariant.text c.in_ok-push_batch.ensures.lines;
-      rows = group_rows m show B c.args.epoch c.loop-group.group c.loop-group.n c.loop-group.invariant.number c.requests-txns.result.now given c.args.store.now c.loop-group.store c.push_batch.new.store c.loop-group.invariant.rows c.in_ok-push_batch.ensures.rows;
-      number = omega (arith, more, added, c.loop-group.invariant.number);
-      few = omega (arith, c.loop-group.invariant.few, c.requests-txns.ensures.at_most);
+      text = ap (λ placed. c.args.text.now.items ++ lines show placed (serial m (map (λ e. e.1) placed) c.args.store.now).1) all;
+      rows = ap (λ placed. (serial m (map (λ e. e.1) placed) c.args.store.now).0) all;
     }
 
-pub returns-clause-lines : goal.returns-clause-lines
-returns-clause-lines g c =
+pub loop-place-preserved : goal.loop-place-preserved
+loop-place-preserved g c =
     let m = g.A.App.meaning in
     let show = g.A.Reply.Printed.printed in
-    let all : c.loop-group.group ≡ c.args.groups = omega (arith, c.loop-group-test.false, c.loop-group.auto.group-end) in
-    c.loop-group.invariant.text ∙ ap (λ (k : ℕ). c.args.text.now.items ++ lines show (merged k (held_by c.args.merge.now) c.args.epoch) (serial m (map (λ e. e.1) (merged k (held_by c.args.merge.now) c.args.epoch)) c.args.store.now).1) all
-
-pub returns-clause-rows : goal.returns-clause-rows
-returns-clause-rows g c =
-    let m = g.A.App.meaning in
-    let all : c.loop-group.group ≡ c.args.groups = omega (arith, c.loop-group-test.false, c.loop-group.auto.group-end) in
-    c.loop-group.invariant.rows ∙ ap (λ (k : ℕ). (serial m (map (λ e. e.1) (merged k (held_by c.args.merge.now) c.args.epoch)) c.args.store.now).0) all
+    let t = c.in-Some.request.now.txn in
+    let order = map placed_txn c.loop-place.place-iterator in
+    let rest = map placed_txn c.next.new.self in
+    let here = ap (map placed_txn) c.in-Some.ensures.steps in
+    let rows_are = c.in_ok-apply_into.ensures.ok in
+    let more = c.in_ok-push_line.ensures ∙ ap (λ a. c.loop-place.text.items ++ line show c.in-Some.place t.id a) c.in_ok-apply_into.ensures.answer in
+    record {
+      text = one_line m show c.in-Some.place t order rest here c.loop-place.store c.apply_into.new.self rows_are c.loop-place.text.items c.push_line.new.text.items _ more c.loop-place.invariant.text;
+      rows = one_row m show c.in-Some.place t order rest here c.loop-place.store c.apply_into.new.self rows_are _ c.loop-place.invariant.rows;
+    }

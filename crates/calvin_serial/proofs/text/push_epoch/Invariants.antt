@@ -1,17 +1,19 @@
-use Rattle.std.proofs.Common.{◌≡◌, ◌≤◌, ◌*◌, ◌++◌, length, map}
+use Rattle.std.proofs.Common.{◌≡◌, ◌++◌, map}
 use Rattle.calvin_app.specs.Serial.{serial}
-use Rattle.calvin_order.specs.Merged.{joined, merged}
-use Rattle.calvin_order.specs.Merging.{held_by}
-use Rattle.calvin_serial.specs.Texts.{lines}
+use Rattle.calvin_order.specs.Merged.{merged}
+use Rattle.calvin_script.specs.Scripts.{contents, batch_at}
+use Rattle.calvin_text.specs.Texts.{lines}
+use Rattle.calvin_serial.proofs.Requests.{placed_txn}
 use Rattle.calvin_serial.proofs.text.push_epoch.Given as goal
 
-abbrev pub invariant-loop-group : goal.invariant-loop-group
-invariant-loop-group g l =
+-- the lines so far and those of the requests to come are those of the whole epoch
+abbrev pub invariant-loop-place : goal.invariant-loop-place
+invariant-loop-place g l =
     let m = g.A.App.meaning in
-    let placed = merged l.group (held_by l.merge) l.epoch in
+    let show = g.A.Reply.Printed.printed in
+    let all = merged l.script.partitions (batch_at (contents l.script)) l.epoch in
+    let rest = map placed_txn l.place-iterator in
     record {
-      text : l.text.items ≡ l.fn.text.items ++ lines g.A.Reply.Printed.printed placed (serial m (map (λ e. e.1) placed) l.fn.store).1;
-      rows : l.store ≡ (serial m (map (λ e. e.1) placed) l.fn.store).0;
-      number : l.n ≡ length (joined (held_by l.merge) l.epoch l.group);
-      few : l.n ≤ 256 * l.group;
+      text : l.text.items ++ lines show rest (serial m (map (λ e. e.1) rest) l.store).1 ≡ l.fn.text.items ++ lines show all (serial m (map (λ e. e.1) all) l.fn.store).1;
+      rows : (serial m (map (λ e. e.1) rest) l.store).0 ≡ (serial m (map (λ e. e.1) all) l.fn.store).0;
     }

@@ -1,6 +1,6 @@
 -- Each event leads on; and what holds of every list of events holds of these, after those that led here.
 use Rattle.std.proofs.Common.{rules}
-use Rattle.calvin_group.proofs.Reached.{led_on, still_one, run_gives, run_one}
+use Rattle.calvin_group.proofs.Reached.{led_on, still_one, run_gives, run_one, run_begins}
 use Rattle.calvin_group.proofs.Runs.{chosen_stays}
 use Rattle.calvin_group.proofs.group.Group.run.Goals as goal
 
@@ -22,3 +22,6 @@ returns-clause-one g c = run_one _ _ c.self.invariant.1 _ c.self.view_is _ _ _ c
 
 pub returns-clause-stays : goal.returns-clause-stays
 returns-clause-stays g c = chosen_stays _ _ _ _ c.loop-event.invariant.led
+
+pub returns-clause-beginnings : goal.returns-clause-beginnings
+returns-clause-beginnings g c = run_begins _ _ c.self.invariant.1 _ c.self.view_is c.args.events.now _ c.loop-event-test.false _ _ c.loop-event.invariant.led

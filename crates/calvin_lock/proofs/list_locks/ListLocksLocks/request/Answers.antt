@@ -1,4 +1,4 @@
-use Rattle.std.proofs.Common.{◌-◌, Some, sym, ap, subst, ◌∙◌, arith}
+use Rattle.std.proofs.Common.{Some, sym, ap, subst, ◌∙◌}
 use Rattle.std.specs.FinMap.{from_entries, insert}
 use Rattle.calvin_types.specs.declared.key_set.Sets.{Sets}
 use Rattle.calvin_types.specs.Places.{place_cmp}
@@ -7,17 +7,12 @@ use Rattle.calvin_lock.proofs.Requests.{in_order_push, pushed}
 use Rattle.calvin_lock.proofs.list_locks.ListLocksLocks.request.Goals as goal
 
 pub invariant_of-self-2 : goal.invariant_of-self-2
-invariant_of-self-2 c = (
-  subst (λ es. IsInOrder es (Some c.args.place)) (sym c.in_ok-push.ensures.items) (in_order_push c.self.inside.unreleased.items c.self.inside.last c.args.place _ c.self.invariant.0 (c.is_past.ensures.0 c.if-not-is_past.false)),
-  let room = c.self.invariant.1 in
-      omega (arith, room, c.in_ok-push.ensures.len, c.in_ok-push.ensures.capacity, c.saturating_sub-self-inside.ensures, c.push.new.self.ok.1),
-)
+invariant_of-self-2 c = subst (λ es. IsInOrder es (Some c.args.place)) (sym c.in_ok-push.ensures.items) (in_order_push c.self.inside.unreleased.items c.self.inside.last c.args.place _ c.self.invariant (c.is_past.ensures.0 c.if-not-is_past.false))
 
-pub returns-clause-requested : goal.returns-clause-requested
-returns-clause-requested c =
+pub returns-clause-ok : goal.returns-clause-ok
+returns-clause-ok c =
     let sets : Sets = record { reads = c.args.reads.now; writes = c.args.writes.now } in
     let requested = ap (from_entries {R = place_cmp}) c.in_ok-push.ensures.items
-    ∙ pushed c.self.inside.unreleased.items c.self.inside.last c.args.place sets c.self.invariant.0 (c.is_past.ensures.0 c.if-not-is_past.false)
+    ∙ pushed c.self.inside.unreleased.items c.self.inside.last c.args.place sets c.self.invariant (c.is_past.ensures.0 c.if-not-is_past.false)
     ∙ ap (λ l. insert l.requested c.args.place sets) c.self.view_is in
-    let room = c.saturating_sub-self-inside.ensures ∙ ap (λ l. l.room - 1) c.self.view_is in
-    λ i. record { requested = requested i; last = Some c.args.place; room = room i }
+    λ i. record { requested = requested i; last = Some c.args.place }

@@ -1,29 +1,14 @@
-use Rattle.std.proofs.Common.{◌++◌, length, vec_len, ap, sym, ◌∙◌, arith}
-use Rattle.calvin_order.specs.Merged.{numbered}
+use Rattle.std.proofs.Common.{◌++◌, length, ap, ◌∙◌, arith}
 use Rattle.calvin_order.specs.Merging.{batch_at}
-use Rattle.calvin_order.proofs.Joining.{fits, length_next, merged_next}
+use Rattle.calvin_order.proofs.Joining.{length-merged}
 use Rattle.calvin_order.proofs.held.Held.append_all.Goals as goal
 
-pub append-requires-clause-few : goal.append-requires-clause-few
-append-requires-clause-few g c =
-    let within = fits (batch_at c.args.self.now.batches) c.args.epoch c.loop-group.group c.args.groups c.loop-group-test.true in
-    let added = ap length c.requests.ensures.requests in
-    omega (arith, within, added)
-
-pub append-requires-clause-room : goal.append-requires-clause-room
-append-requires-clause-room g c =
-    let within = fits (batch_at c.args.self.now.batches) c.args.epoch c.loop-group.group c.args.groups c.loop-group-test.true in
-    let added = ap length c.requests.ensures.requests in
-    omega (arith, within, added)
-
-pub loop-group-preserved : goal.loop-group-preserved
-loop-group-preserved g c = record {
-  so_far = c.append.ensures.appended
-      ∙ (λ i. c.loop-group.invariant.so_far i ++ numbered c.args.epoch (vec_len c.loop-group.out) (c.requests.ensures.requests i))
-      ∙ sym (merged_next (batch_at c.args.self.now.batches) c.args.epoch c.loop-group.group (vec_len c.loop-group.out) c.loop-group.invariant.len);
-  len =
-      let next = length_next (batch_at c.args.self.now.batches) c.args.epoch c.loop-group.group in
-      let added = ap length c.requests.ensures.requests in
-      omega (arith, next, added);
-  capacity = omega arith;
-}
+pub loop-place-init : goal.loop-place-init
+loop-place-init g c =
+    let all = c.into_iter-place-iterator.ensures.into_iter_gives ∙ c.new-place-items.ensures in
+    let number = ap length all ∙ length-merged (batch_at c.args.self.now.batches) c.args.epoch c.args.groups in
+    let none = ap length c.requires.empty in
+    record {
+      to_come = ap (λ es. es ++ c.into_iter-place-iterator.result) c.requires.empty ∙ all;
+      room = omega (arith, number, none, c.requires.room);
+    }

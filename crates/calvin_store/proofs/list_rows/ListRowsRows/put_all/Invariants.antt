@@ -1,11 +1,10 @@
-use Rattle.std.proofs.Common.{◌≡◌, ◌+◌, drop}
-use Rattle.std.specs.FinMap as map
+use Rattle.std.proofs.Common.{◌≡◌, ◌+◌, ◌≤◌, drop}
 use Rattle.calvin_app.specs.Rows.{overwritten}
 use Rattle.calvin_store.proofs.list_rows.ListRowsRows.put_all.Given as goal
 
--- what is left to write makes of the rows what all writes make of the rows before; each new key takes one from the room
+-- what is left to write makes of the rows what all writes make of the rows before; each write takes one from the room at most
 abbrev pub invariant-loop-i : goal.invariant-loop-i
 invariant-loop-i g l = record {
   so_far : overwritten l.self.rows (drop l.i l.writes) ≡ overwritten l.fn.self.rows l.writes;
-  room : map.len l.self.rows + l.self.room ≡ map.len l.fn.self.rows + l.fn.self.room;
+  room : l.fn.self.room ≤ l.self.room + l.i;
 }

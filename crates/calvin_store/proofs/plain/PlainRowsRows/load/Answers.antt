@@ -1,16 +1,18 @@
-use Rattle.std.proofs.Common.{sym, ap, ◌∙◌, subst, length, arith}
+use Rattle.std.proofs.Common.{ap, ◌∙◌}
+use Rattle.std.proofs.lemmas.Result.{IfOk-at_ok}
+use Rattle.std.proofs.lemmas.Iterator.{YieldsList-from_slice}
+use Rattle.std.proofs.lemmas.Iterator.Adapters.{fact_from_collect}
+use Rattle.std.proofs.lemmas.Iterator.Consumers.{YieldsList-from_copied, YieldsList-at}
+use Rattle.std.specs.HashMap as hash
 use Rattle.std.specs.FinMap as map
-use Rattle.calvin_app.specs.Entries.{rising, shown, entries_kept}
+use Rattle.calvin_types.specs.SameKeys.{equal_keys}
+use Rattle.calvin_app.specs.Stores.{loaded}
+use Rattle.calvin_app.proofs.RowTables.{same_rows}
+use Rattle.calvin_store.proofs.SortedPairs.{collected}
 use Rattle.calvin_store.proofs.plain.PlainRowsRows.load.Goals as goal
 
-pub invariant_of-self-2 : goal.invariant_of-self-2
-invariant_of-self-2 g c =
-    record {
-      in_order = subst rising (sym (c.of_pairs.ensures.pairs ∙ c.pairs-pairs.ensures)) (map.entries_sorted c.args.snapshot.now);
-      counted = ap length (sym c.of_pairs.ensures.pairs);
-      stocked = omega (arith, c.of_pairs.ensures.stock, c.in_ok-fill.ensures.filled, c.in-Some.ensures);
-      countable = omega (arith, c.in-Some.ensures);
-    }
-
 pub returns-clause-ok : goal.returns-clause-ok
-returns-clause-ok g c = ap shown (c.of_pairs.ensures.pairs ∙ c.pairs-pairs.ensures) ∙ map.same_entries_map _ _ (entries_kept _ (map.entries_sorted c.args.snapshot.now))
+returns-clause-ok g c =
+    let pairs = map.entries c.args.snapshot.now in
+    let made = IfOk-at_ok _ c.in_ok-rows.was (fact_from_collect (hash.IsFromIterResult equal_keys) c.collect.result c.collect.ensures.ran (YieldsList-from_copied (YieldsList-at c.copied.ensures.source (YieldsList-from_slice pairs (c.iter.ensures.rest ∙ c.pairs.ensures))))) in
+    ap loaded (same_rows c.in_ok-rows.rows.entries c.reserve.new.self.entries c.reserve.ensures.entries.2 ∙ collected c.args.snapshot.now c.in_ok-rows.rows.entries made.0)

@@ -1,20 +1,26 @@
-use Rattle.std.proofs.Common.{◌≡◌, ◌+◌, drop, sym, ◌∙◌, ap, arith}
+use Rattle.std.proofs.Common.{◌+◌, drop, sym, ◌∙◌, ap, arith}
 use Rattle.std.proofs.lemmas.List.{drop_all}
-use Rattle.std.specs.FinMap as map
+use Rattle.calvin_types.proofs.Fews.{drop_at}
 use Rattle.calvin_app.specs.Rows.{overwritten}
-use Rattle.calvin_store.proofs.NewKeys.{next_write, next_fits, len-overwritten-ge}
+use Rattle.calvin_app.specs.Stores.{loaded}
+use Rattle.calvin_app.proofs.StoreLaws.{put_at-loaded}
 use Rattle.calvin_store.proofs.plain.PlainRowsRows.put_all.Goals as goal
 
 pub put-requires : goal.put-requires
-put-requires g c = next_fits c.args.writes.now c.loop-i.i _ c.loop-i.self.rows c.args.self.now.rows c.at-row.ensures c.loop-i.invariant.so_far c.loop-i.self.room c.args.self.now.room c.loop-i.invariant.room c.requires
+put-requires g c = omega (arith, c.loop-i.invariant.room, c.requires, c.loop-i-test.true, c.len-i-end.ensures.len)
 
 pub loop-i-preserved : goal.loop-i-preserved
 loop-i-preserved g c = record {
-  so_far = ap (λ m. overwritten m (drop (c.loop-i.i + 1) c.args.writes.now)) c.put.ensures.rows ∙ next_write c.args.writes.now c.loop-i.i _ c.loop-i.self.rows c.args.self.now.rows c.at-row.ensures c.loop-i.invariant.so_far;
-  room = c.put.ensures.room ∙ c.loop-i.invariant.room;
+  so_far = ap (λ k. overwritten k.rows (drop (c.loop-i.i + 1) c.args.writes.now)) c.put.ensures
+      ∙ ap (overwritten c.loop-i.self.rows) (sym (drop_at c.args.writes.now c.loop-i.i c.at-row.result c.at-row.ensures))
+      ∙ c.loop-i.invariant.so_far;
+  room = omega (arith, ap (λ k. k.room) c.put.ensures, c.loop-i.invariant.room, c.requires, c.loop-i-test.true, c.len-i-end.ensures.len);
 }
 
+pub returns-clause-store : goal.returns-clause-store
+returns-clause-store g c =
+    ap loaded (ap (overwritten c.loop-i.self.rows) (sym (drop_all c.loop-i.i c.args.writes.now (omega (arith, c.loop-i-test.false, c.len-i-end.ensures.len)))) ∙ c.loop-i.invariant.so_far)
+    ∙ sym (put_at-loaded c.args._place c.args.writes.now c.args.self.now.rows)
+
 pub returns-clause-room : goal.returns-clause-room
-returns-clause-room g c =
-    let all : c.loop-i.self.rows ≡ overwritten c.args.self.now.rows c.args.writes.now = ap (overwritten c.loop-i.self.rows) (sym (drop_all c.loop-i.i c.args.writes.now (omega (arith, c.len-i-end.ensures.len)))) ∙ c.loop-i.invariant.so_far in
-    omega (arith, c.loop-i.invariant.room, ap map.len all, len-overwritten-ge c.args.self.now.rows c.args.writes.now)
+returns-clause-room g c = omega (arith, c.loop-i.invariant.room, c.loop-i-test.false, c.len-i-end.ensures.len)

@@ -1,0 +1,51 @@
+//! A request that can be run anywhere, and what came of it.
+ghost use Rattle.std.specs.Prelude.{◌≡◌};
+ghost use Rattle.calvin_app.specs.Serial.{answer_on, writes_on};
+
+use crate::answer::Answer;
+use crate::app::App;
+use crate::view::View;
+use crate::writes::Writes;
+use calvin_types::{Place, Txn};
+
+/// A request with its place and with all that it sees, the rows of its declared reads: whoever has it can run it
+/// (Thomson et al. 2012, section 3.2: a transaction is executed once its remote reads have come).
+#[derive(Clone, Copy)]
+pub struct Job<Args: Copy, Row: Copy> {
+    pub place: Place,
+    pub txn: Txn<Args>,
+    pub view: View<Row>,
+}
+
+/// What a request was answered and what it writes, beside the request and what it saw.
+#[derive(Clone, Copy)]
+pub struct Work<Args: Copy, Row: Copy, Reply: Copy> {
+    pub job: Job<Args, Row>,
+    pub answer: Answer<Reply>,
+    pub writes: Writes<Row>,
+}
+
+impl<Args: Copy + Eq, Row: Copy + Eq> Job<Args, Row> {
+    /// Runs the request on what it sees: it is answered `Changed`, and writes nothing, where its declared sets aren't
+    /// those that it needs there.
+    #[tactic(auto, unfolding(crate::specs::Serial::answer_on, crate::specs::Serial::writes_on))]
+    pub fn compute<A: App<Args = Args, Row = Row>>(self, app: &A) -> Work<Args, Row, A::Reply>
+        ensures job { result.job ≡ self }
+        ensures answer { result.answer ≡ answer_on A.meaning self.txn self.view }
+        ensures writes { result.writes ≡ writes_on A.meaning self.txn self.view }
+    {
+        if !app.needs_only(&self.txn.args, &self.view, &self.txn.sets) {
+            return Work {
+                job: self,
+                answer: Answer::Changed,
+                writes: Writes::new(),
+            };
+        }
+        let (reply, writes) = app.run(&self.txn.args, &self.view);
+        Work {
+            job: self,
+            answer: Answer::Reply(reply),
+            writes,
+        }
+    }
+}

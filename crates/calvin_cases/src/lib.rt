@@ -1,0 +1,18 @@
+//! The worked cases, and the tests of what no clause says. They are checked here over the statements of the crates below:
+//! a test in a crate's own folder would have that crate proved once more with it.
+#![tactic(auto)]
+
+#[cfg(test)]
+mod batches;
+#[cfg(test)]
+mod drawn;
+#[cfg(test)]
+mod group;
+#[cfg(test)]
+mod keys;
+#[cfg(test)]
+mod merge;
+#[cfg(test)]
+mod plain;
+#[cfg(test)]
+mod synod;

@@ -1,6 +1,0 @@
-use Rattle.std.proofs.Common.{ap, ◌∙◌}
-use Rattle.calvin_app.specs.Entries.{shown, shown-none}
-use Rattle.calvin_store.proofs.plain.PlainRowsRows.empty.Goals as goal
-
-pub returns-clause-rows : goal.returns-clause-rows
-returns-clause-rows g c = ap shown c.new.ensures ∙ shown-none

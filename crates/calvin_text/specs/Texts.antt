@@ -1,0 +1,56 @@
+-- What is written of answers.
+--     place_text p, id_text id      `epoch.n` and `client:number`
+--     kv_text reply      a reply of Kv
+--     line show p id answer      `epoch.n client:number answer`
+--     lines show order answers      a line for each request with its answer
+--     finished n      the last of n epochs
+use Rattle.std.specs.Prelude.{ℕ, zero, suc, List, [], ◌∷◌, ◌++◌, codes, decimal, Option, Some, None}
+use Rattle.std.specs.List.{flat_map}
+use Rattle.calvin_types.specs.declared.place.Place.{Place}
+use Rattle.calvin_types.specs.declared.place.RequestId.{RequestId}
+use Rattle.calvin_types.specs.Orders.{Order}
+use Rattle.calvin_app.specs.declared.answer.Answer.{Answer}
+use Rattle.calvin_app.specs.declared.answer.Answer.TheVariants as answer
+use Rattle.calvin_app.specs.declared.kv.KvReply.{KvReply}
+use Rattle.calvin_app.specs.declared.kv.KvReply.TheVariants as reply
+
+abbrev pub place_text : Place → List ℕ
+place_text p = decimal p.epoch ++ codes "." ++ decimal p.n
+
+abbrev pub id_text : RequestId → List ℕ
+id_text id = decimal id.client ++ codes ":" ++ decimal id.number
+
+-- a number under a key, or that there is none
+abbrev pub value_text : Option ℕ → List ℕ
+value_text (Some n) = codes "value " ++ decimal n
+value_text None = codes "none"
+
+-- for each key its number or none, joined by one space
+abbrev pub values_text : List (Option ℕ) → List ℕ
+values_text [] = []
+values_text (v ∷ vs) = value_text v ++ flat_map (λ w. codes " " ++ value_text w) vs
+
+abbrev pub kv_text : KvReply → List ℕ
+kv_text reply.Done = codes "done"
+kv_text reply.Limit = codes "limit"
+kv_text (reply.Value sum) = value_text (Some sum)
+kv_text (reply.Values values) = values_text values
+
+module _ {Reply : Type 0} (show : Reply → List ℕ) where
+  abbrev pub answer_text : Answer Reply → List ℕ
+  answer_text (answer.Reply r) = show r
+  answer_text answer.Changed = codes "changed"
+
+  abbrev pub line : Place → RequestId → Answer Reply → List ℕ
+  line p id a = place_text p ++ codes " " ++ id_text id ++ codes " " ++ answer_text a ++ codes "\n"
+
+  -- a line for each request with its answer
+  abbrev pub lines : {Args : Type 0} → Order Args → List (Answer Reply) → List ℕ
+  lines [] answers = []
+  lines (e ∷ es) [] = []
+  lines (e ∷ es) (a ∷ answers) = line e.0 e.1.id a ++ lines es answers
+
+-- the last of so many epochs
+abbrev pub finished : ℕ → List ℕ
+finished zero = codes "finished none\n"
+finished (suc e) = codes "finished " ++ decimal e ++ codes "\n"

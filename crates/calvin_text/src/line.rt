@@ -1,0 +1,65 @@
+//! The lines of answers.
+ghost use Rattle.std.specs.Prelude.{◌≡◌, ◌++◌, OnOk};
+ghost use Rattle.calvin_text.specs.Texts.{place_text, id_text, answer_text, line, finished};
+
+use crate::printed::{Printed, push_number};
+use calvin_app::Answer;
+use calvin_types::{Place, RequestId};
+use std::alloc::AllocError;
+
+/// Adds a place.
+fn push_place(text: &mut Vec<u8>, place: Place) -> Result<(), AllocError>
+    ensures { OnOk result (text.new.items ≡ text.old.items ++ place_text place) }
+{
+    push_number(text, place.epoch)?;
+    text.extend_from_slice(b".")?;
+    push_number(text, place.n as u64)
+}
+
+/// Adds the name of a request.
+fn push_id(text: &mut Vec<u8>, id: RequestId) -> Result<(), AllocError>
+    ensures { OnOk result (text.new.items ≡ text.old.items ++ id_text id) }
+{
+    push_number(text, id.client as u64)?;
+    text.extend_from_slice(b":")?;
+    push_number(text, id.number as u64)
+}
+
+/// Adds an answer.
+fn push_answer<R: Printed>(text: &mut Vec<u8>, answer: &Answer<R>) -> Result<(), AllocError>
+    ensures { OnOk result (text.new.items ≡ text.old.items ++ answer_text R.printed answer.now) }
+{
+    match answer {
+        Answer::Reply(reply) => reply.push_to(text),
+        Answer::Changed => text.extend_from_slice(b"changed"),
+    }
+}
+
+/// Adds the line of one request.
+pub fn push_line<R: Printed>(
+    text: &mut Vec<u8>,
+    place: Place,
+    id: RequestId,
+    answer: &Answer<R>,
+) -> Result<(), AllocError>
+    ensures { OnOk result (text.new.items ≡ text.old.items ++ line R.printed place id answer.now) }
+{
+    push_place(text, place)?;
+    text.extend_from_slice(b" ")?;
+    push_id(text, id)?;
+    text.extend_from_slice(b" ")?;
+    push_answer(text, answer)?;
+    text.extend_from_slice(b"\n")
+}
+
+/// Adds the last line.
+pub fn push_finished(text: &mut Vec<u8>, epochs: usize) -> Result<(), AllocError>
+    ensures { OnOk result (text.new.items ≡ text.old.items ++ finished epochs) }
+{
+    if epochs == 0 {
+        return text.extend_from_slice(b"finished none\n");
+    }
+    text.extend_from_slice(b"finished ")?;
+    push_number(text, (epochs - 1) as u64)?;
+    text.extend_from_slice(b"\n")
+}

@@ -1,0 +1,86 @@
+//! What is written of an answer.
+ghost use Rattle.std.specs.Prelude.{◌≡◌, ◌++◌, ℕ, List, OnOk, codes, decimal};
+ghost use Rattle.calvin_text.specs.Texts.{value_text, values_text, kv_text};
+
+use calvin_app::KvReply;
+use calvin_types::Few;
+use itoa::Buffer;
+use std::alloc::AllocError;
+
+/// What has a text. Where memory is wanting, a beginning of it may have been added.
+pub trait Printed {
+    /// The text.
+    ghost printed: { Self → List ℕ };
+
+    /// Adds the text to what is there.
+    fn push_to(&self, text: &mut Vec<u8>) -> Result<(), AllocError>
+        ensures { OnOk result (text.new.items ≡ text.old.items ++ printed self.now) };
+}
+
+/// Adds a number.
+#[inline(always)]
+pub(crate) fn push_number(text: &mut Vec<u8>, n: u64) -> Result<(), AllocError>
+    ensures { OnOk result (text.new.items ≡ text.old.items ++ decimal n) }
+{
+    if n < 10 {
+        text.push(b'0' + n as u8)?;
+        return Ok(());
+    }
+    let mut buffer = Buffer::new();
+    text.extend_from_slice(buffer.format(n).as_bytes())
+}
+
+/// Adds a number, or that there is none.
+#[inline(always)]
+fn push_value(text: &mut Vec<u8>, value: Option<u64>) -> Result<(), AllocError>
+    ensures { OnOk result (text.new.items ≡ text.old.items ++ value_text value) }
+{
+    match value {
+        Some(n) => {
+            text.extend_from_slice(b"value ")?;
+            push_number(text, n)
+        }
+        None => text.extend_from_slice(b"none"),
+    }
+}
+
+/// Adds a space, and a number or that there is none.
+#[inline(always)]
+fn push_next_value(text: &mut Vec<u8>, value: Option<u64>) -> Result<(), AllocError>
+    ensures { OnOk result (text.new.items ≡ text.old.items ++ codes " " ++ value_text value) }
+{
+    match value {
+        Some(n) => {
+            text.extend_from_slice(b" value ")?;
+            push_number(text, n)
+        }
+        None => text.extend_from_slice(b" none"),
+    }
+}
+
+/// Adds numbers, joined by one space.
+fn push_values(text: &mut Vec<u8>, values: &Few<Option<u64>>) -> Result<(), AllocError>
+    ensures { OnOk result (text.new.items ≡ text.old.items ++ values_text values.now) }
+{
+    let Some(first) = values.get(0) else {
+        return Ok(());
+    };
+    push_value(text, first)?;
+    for i in 1..values.len() {
+        push_next_value(text, values.at(i))?;
+    }
+    Ok(())
+}
+
+impl Printed for KvReply {
+    ghost printed = { kv_text };
+
+    fn push_to(&self, text: &mut Vec<u8>) -> Result<(), AllocError> {
+        match self {
+            KvReply::Done => text.extend_from_slice(b"done"),
+            KvReply::Limit => text.extend_from_slice(b"limit"),
+            KvReply::Value(sum) => push_value(text, Some(*sum)),
+            KvReply::Values(values) => push_values(text, values),
+        }
+    }
+}

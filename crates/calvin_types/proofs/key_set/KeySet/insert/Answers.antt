@@ -1,7 +1,0 @@
-use Rattle.std.proofs.Common.{sym, ◌∙◌, ap}
-use Rattle.calvin_types.specs.Keys.{rises}
-use Rattle.calvin_types.proofs.Risings.{rises-insert_key}
-use Rattle.calvin_types.proofs.key_set.KeySet.insert.Goals as goal
-
-pub invariant_of-self : goal.invariant_of-self
-invariant_of-self c = ap rises (c.insert.ensures ∙ sym c.in-Some.ensures.insert_is) ∙ rises-insert_key c.args.key c.self.inside.keys c.self.invariant

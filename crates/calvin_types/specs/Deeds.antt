@@ -1,0 +1,8 @@
+-- What a call makes of data.
+--     Deed S Out      a refusal, or the data after it and what comes out
+use Rattle.calvin_types.specs.declared.fault.Fault.{Fault}
+
+-- a refusal, which leaves the data as they were; or the data after the call, and what it answers or sends
+pub data Deed (S Out : Type 0) : Type 0 where
+  Refuses : (fault : Fault) → Deed S Out
+  Does : (next : S) (out : Out) → Deed S Out
