@@ -5,7 +5,8 @@ use Rattle.std.specs.FinMap as map
 use Rattle.calvin_types.specs.declared.key.Key.{Key}
 use Rattle.calvin_types.specs.Keys.{key_cmp}
 use Rattle.calvin_types.specs.KeyOrder.{key_cmp_exact, key_cmp_total}
-use Rattle.calvin_types.specs.SameKeys.{equal_keys, equal_keys_exact, equal_keys_self}
+use Rattle.calvin_types.specs.SameKeys.{equal_keys}
+use Rattle.calvin_types.specs.SameKeysLaws.{equal_keys_exact, equal_keys_self}
 use Rattle.calvin_types.proofs.HashMaps.{get-entries, same_entries, one_put}
 
 module _ {Row : Type 0} (es : List (Key × Row)) where

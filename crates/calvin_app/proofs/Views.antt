@@ -1,13 +1,18 @@
--- A view of one more key.
-use Rattle.std.proofs.Common.{◌≡◌, ◌+◌, ◌≤◌, true, false, cond, ◌||◌, List, [], ◌∷◌, ◌++◌, Option, Some, None, refl, sym, ◌∙◌, ap, subst, arith}
+-- A view of no key, and of one more key.
+use Rattle.std.proofs.Common.{◌≡◌, ◌+◌, ◌≤◌, true, false, cond, ◌||◌, List, [], ◌∷◌, ◌++◌, Option, Some, None, length, refl, sym, ◌∙◌, ap, subst, arith}
 use Rattle.std.specs.FinMap as map
 use Rattle.std.specs.Cmp.{Equal-is}
 use Rattle.std.proofs.Math.Bool.{or-true, or-false}
 use Rattle.calvin_types.specs.declared.key.Key.{Key}
 use Rattle.calvin_types.specs.Keys.{key_cmp, has, same_key}
 use Rattle.calvin_types.specs.KeyOrder.{key_cmp_exact, key_cmp_total, has-alike, has-push}
-use Rattle.calvin_app.specs.Rows.{Rows}
-use Rattle.calvin_app.specs.Rows.{view}
+use Rattle.calvin_app.specs.Entries.{shown}
+use Rattle.calvin_app.specs.EntryLaws.{entries_kept}
+use Rattle.calvin_app.specs.Rows.{Rows, view}
+
+-- no entries show the empty map
+pub shown_none : {Row : Type 0} → shown {Row = Row} [] ≡ map.empty
+shown_none = map.empty_of_len _ (map.len-entries _ ∙ ap length (entries_kept [] tt))
 
 pub get-view : {Row : Type 0} (rows : Rows Row) (ks : List Key) (q : Key) → map.get (view rows ks) q ≡ cond (has ks q) (map.get rows q) None
 get-view rows ks q = map.get-retain_keys rows (has ks) q (λ x h. has-alike ks q x h)

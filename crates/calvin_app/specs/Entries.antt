@@ -1,17 +1,10 @@
 -- Rows by key, kept as entries whose keys rise.
 --     rising entries      their keys rise
 --     shown entries      the map that they show
---     entries_kept      rising entries are those of the map that they show
---     shown-none      no entries show the empty map
---     rising-put      entries rise after one is put among them
---     shown-put      and then they show the map with this row
---     get-shown, len-shown      the map's row of a key is that of the entries;  it has as many keys as they are
-use Rattle.std.specs.Prelude.{◌≡◌, List, [], T, length}
-use Rattle.std.proofs.Common.{sym, ap, ◌∙◌}
+use Rattle.std.specs.Prelude.{List, T}
 use Rattle.std.specs.FinMap as map
 use Rattle.calvin_types.specs.declared.key.Key.{Key}
 use Rattle.calvin_types.specs.Keys.{key_cmp}
-use Rattle.calvin_types.specs.KeyOrder.{key_cmp_total}
 use Rattle.calvin_app.specs.Rows.{Rows}
 
 -- whether the keys of entries rise
@@ -21,27 +14,3 @@ rising es = T (map.is_sorted key_cmp es)
 -- the map that entries show
 abbrev pub shown : {Row : Type 0} → List (Key × Row) → Rows Row
 shown es = map.from_sorted es
-
--- rising entries are those of the map that they show
-pub entries_kept : {Row : Type 0} (es : List (Key × Row)) → rising es → map.entries (shown es) ≡ es
-entries_kept es h = map.entries-from_sorted key_cmp es h
-
--- no entries show the empty map
-pub shown-none : {Row : Type 0} → shown {Row = Row} [] ≡ map.empty
-shown-none = map.empty_of_len _ (map.len-entries _ ∙ ap length (entries_kept [] tt))
-
--- entries rise after one is put among them
-pub rising-put : {Row : Type 0} (es : List (Key × Row)) (k : Key) (r : Row) → rising es → rising (map.put key_cmp k r es)
-rising-put es k r h = Rattle.std.specs.FinMap.Entries.is_sorted-put key_cmp key_cmp_total k r es h
-
--- and then they show the map with this row
-pub shown-put : {Row : Type 0} (es : List (Key × Row)) (k : Key) (r : Row) → rising es → shown (map.put key_cmp k r es) ≡ map.insert (shown es) k r
-shown-put es k r h = map.same_entries_map _ _ (entries_kept _ (rising-put es k r h) ∙ ap (map.put key_cmp k r) (sym (entries_kept es h)) ∙ sym (map.entries-insert key_cmp_total (shown es) k r))
-
--- the map's row of a key is that of the entries
-pub get-shown : {Row : Type 0} (es : List (Key × Row)) (k : Key) → rising es → map.get (shown es) k ≡ map.find key_cmp k es
-get-shown es k h = map.get-from_sorted key_cmp es k h
-
--- the map has as many keys as there are entries
-pub len-shown : {Row : Type 0} (es : List (Key × Row)) → rising es → map.len (shown es) ≡ length es
-len-shown es h = map.len-entries _ ∙ ap length (entries_kept es h)

@@ -5,7 +5,7 @@
 use Rattle.std.specs.Prelude.{◌≡◌, ℕ, true, ◌==◌, refl}
 use Rattle.std.proofs.Common.{ap}
 use Rattle.std.proofs.lemmas.Bool.{eqb-true, false≢true}
-use Rattle.calvin_types.specs.SameKeys.{equal_keys_exact}
+use Rattle.calvin_types.specs.SameKeysLaws.{equal_keys_exact}
 use Rattle.calvin_types.specs.Exact.{pointwise_exact, option_exact, first, second}
 use Rattle.calvin_app.specs.declared.kv.KvRequest.{KvRequest}
 use Rattle.calvin_app.specs.declared.kv.KvRequest.TheVariants.{Put, Get, Add}

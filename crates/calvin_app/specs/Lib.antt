@@ -1,8 +1,10 @@
 pub mod Entries
+pub mod EntryLaws
 pub mod EntryPlaces
 pub mod Follow
 pub mod Kv
 pub mod KvExact
+pub mod KvLaws
 pub mod Meaning
 pub mod Rows
 pub mod Serial

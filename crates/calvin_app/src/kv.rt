@@ -6,7 +6,8 @@ ghost use Rattle.std.proofs.Common.{lit<};
 ghost use Rattle.calvin_app.specs.KvExact.{requests_exact, numbers_exact, replies_exact};
 ghost use Rattle.calvin_app.specs.Rows.{Rows};
 ghost use Rattle.calvin_app.specs.declared.answer.Answer.TheVariants.{Reply};
-ghost use Rattle.calvin_app.specs.Kv.{kv, kv_lawful, asked};
+ghost use Rattle.calvin_app.specs.Kv.{kv, asked};
+ghost use Rattle.calvin_app.specs.KvLaws.{kv_lawful};
 ghost use Rattle.calvin_types.specs.SameKeys.{same_keys};
 
 use crate::answer::Answer;

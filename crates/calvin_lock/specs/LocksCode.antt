@@ -1,19 +1,15 @@
 -- How a proof tells what lock managers keep apart: by lists, options and pairs.
---     coded_place, coded_sets      a place and two sets of keys as pairs, and back
+--     coded_sets      two sets of keys as a pair, and back
 --     coded_locking      what a lock manager keeps as pairs, and back
-use Rattle.std.specs.Prelude.{ℕ, List, Option, refl}
-use Rattle.std.specs.Coded.{Coded, code_by, coded×, coded_ℕ, coded_list, coded_option}
+use Rattle.std.specs.Prelude.{List, Option, refl}
+use Rattle.std.specs.Coded.{Coded, code_by, coded×, coded_list, coded_option}
 use Rattle.std.specs.FinMap.{code}
 use Rattle.calvin_types.specs.declared.key.Key.{Key}
 use Rattle.calvin_types.specs.declared.key_set.Sets.{Sets}
 use Rattle.calvin_types.specs.declared.place.Place.{Place}
-use Rattle.calvin_types.specs.Codes.{coded_key}
+use Rattle.calvin_types.specs.Codes.{coded_key, coded_place}
 use Rattle.calvin_lock.specs.Ready.{Requested}
 use Rattle.calvin_lock.specs.Locking.{Locking}
-
--- a place as its epoch and its number, and back
-abbrev pub coded_place : Coded Place
-coded_place = code_by (ℕ × ℕ) (coded× coded_ℕ coded_ℕ) (λ q. (q.epoch, q.n)) (λ p. record { epoch = p.0; n = p.1 }) (λ _. refl)
 
 -- two sets of keys as a pair, and back
 abbrev pub coded_sets : Coded Sets

@@ -3,11 +3,8 @@ use Rattle.std.specs.Prelude.{ℕ, List, refl}
 use Rattle.calvin_types.specs.declared.place.Place.{Place}
 use Rattle.std.specs.Coded.{Coded, code_by, coded×, coded_ℕ, coded_list}
 use Rattle.std.specs.FinMap.{code}
-use Rattle.calvin_types.specs.Codes.{coded_slot, coded_txn}
+use Rattle.calvin_types.specs.Codes.{coded_place, coded_slot, coded_txn}
 use Rattle.calvin_order.specs.Merging.{Batches, Holding, Merging}
-
-abbrev pub coded_place : Coded Place
-coded_place = code_by (ℕ × ℕ) (coded× coded_ℕ coded_ℕ) (λ q. (q.epoch, q.n)) (λ p. record { epoch = p.0; n = p.1 }) (λ _. refl)
 
 abbrev pub coded_placed : {T : Type 0} → Coded T → Coded (List (Place × T))
 coded_placed items = coded_list (coded× coded_place items)

@@ -17,7 +17,8 @@ use Rattle.std.specs.FinMap.Entries.{below_all}
 use Rattle.calvin_types.specs.declared.key.Key.{Key}
 use Rattle.calvin_types.specs.Keys.{key_cmp}
 use Rattle.calvin_types.specs.KeyOrder.{key_cmp_exact, key_cmp_total}
-use Rattle.calvin_types.specs.SameKeys.{equal_keys, equal_keys_exact, equal_keys_self, equal_keys_is_same_key, equal_keys_equiv}
+use Rattle.calvin_types.specs.SameKeys.{equal_keys}
+use Rattle.calvin_types.specs.SameKeysLaws.{equal_keys_exact, equal_keys_self, equal_keys_is_same_key, equal_keys_equiv}
 use Rattle.calvin_types.proofs.Conjunctions.{first, second, both, less}
 use Rattle.calvin_app.specs.Rows.{Rows}
 use Rattle.calvin_app.specs.Entries.{rising, shown}

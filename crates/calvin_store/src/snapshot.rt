@@ -18,7 +18,8 @@ impl<Row> Model for Snapshot<Row> {
     ghost use Rattle.std.specs.FinMap as map;
     ghost use Rattle.calvin_types.specs.Keys.{key_cmp};
     ghost use Rattle.calvin_types.specs.Codes.{coded_key};
-    ghost use Rattle.calvin_app.specs.Entries.{shown, rising, entries_kept};
+    ghost use Rattle.calvin_app.specs.Entries.{shown, rising};
+    ghost use Rattle.calvin_app.specs.EntryLaws.{entries_kept};
 
     ghost Value = { map.FinMap key_cmp Row };
 

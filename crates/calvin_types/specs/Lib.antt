@@ -12,4 +12,5 @@ pub mod Orders
 pub mod Participants
 pub mod Places
 pub mod SameKeys
+pub mod SameKeysLaws
 pub mod Submitting

@@ -32,7 +32,8 @@ impl Model for KeyList {
 }
 
 impl PartialEq for KeyList {
-    ghost use Rattle.calvin_types.specs.SameKeys.{same_keys, same_keys_per};
+    ghost use Rattle.calvin_types.specs.SameKeys.{same_keys};
+    ghost use Rattle.calvin_types.specs.SameKeysLaws.{same_keys_per};
 
     ghost eq = { same_keys };
 
@@ -52,7 +53,7 @@ impl PartialEq for KeyList {
 }
 
 impl Eq for KeyList {
-    ghost use Rattle.calvin_types.specs.SameKeys.{same_keys_equiv};
+    ghost use Rattle.calvin_types.specs.SameKeysLaws.{same_keys_equiv};
 
     ghost laws = { same_keys_equiv };
 }

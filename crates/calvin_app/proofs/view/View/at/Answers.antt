@@ -1,6 +1,6 @@
 use Rattle.std.proofs.Common.{slice_get, sym, ◌∙◌, ap, arith}
 use Rattle.std.specs.FinMap as map
-use Rattle.calvin_app.specs.Entries.{len-shown, entries_kept}
+use Rattle.calvin_app.specs.EntryLaws.{len-shown, entries_kept}
 use Rattle.calvin_app.proofs.view.View.at.Goals as goal
 
 pub at-requires : goal.at-requires

@@ -2,7 +2,7 @@ use Rattle.std.proofs.Common.{sym, ◌∙◌, ap, drop, arith, rules}
 use Rattle.std.proofs.lemmas.List.{drop_all}
 use Rattle.std.specs.FinMap as map
 use Rattle.calvin_types.specs.Keys.{key_cmp}
-use Rattle.calvin_app.specs.Entries.{entries_kept}
+use Rattle.calvin_app.specs.EntryLaws.{entries_kept}
 use Rattle.calvin_app.proofs.Puts.{found, passed}
 use Rattle.calvin_app.proofs.Ends.{find_before, rising-drop, slice_get-drop}
 use Rattle.calvin_app.proofs.view.View.get_from.Goals as goal

@@ -1,7 +1,7 @@
 -- Both have the same entries.
 use Rattle.std.proofs.Common.{◌≡◌, sym, ap, ◌∙◌}
 use Rattle.std.specs.FinMap as map
-use Rattle.calvin_app.specs.Entries.{entries_kept}
+use Rattle.calvin_app.specs.EntryLaws.{entries_kept}
 use Rattle.calvin_app.proofs.view.View.is_same.Goals as goal
 
 pub returns : goal.returns

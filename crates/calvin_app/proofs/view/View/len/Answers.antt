@@ -1,6 +1,6 @@
 use Rattle.std.proofs.Common.{sym, ◌∙◌, ap, arith}
 use Rattle.std.specs.FinMap as map
-use Rattle.calvin_app.specs.Entries.{len-shown}
+use Rattle.calvin_app.specs.EntryLaws.{len-shown}
 use Rattle.calvin_app.proofs.view.View.len.Goals as goal
 
 pub returns-clause-len : goal.returns-clause-len

@@ -2,7 +2,8 @@ use Rattle.std.proofs.Common.{◌≡◌, ◌+◌, vec_len, sym, ap, ◌∙◌, s
 use Rattle.std.specs.List.{insert}
 use Rattle.std.specs.FinMap as map
 use Rattle.calvin_app.specs.EntryPlaces.{IsAt, IsMissingAt}
-use Rattle.calvin_app.specs.Entries.{rising, shown, rising-put, shown-put}
+use Rattle.calvin_app.specs.Entries.{rising, shown}
+use Rattle.calvin_app.specs.EntryLaws.{rising-put, shown-put}
 use Rattle.calvin_store.proofs.list_rows.ListRows.put.Given.{Over}
 use Rattle.calvin_store.proofs.list_rows.ListRows.put.Goals as goal
 use Rattle.calvin_store.proofs.list_rows.ListRows.put.Goals.{In-Ok, In-Err}

@@ -3,7 +3,7 @@ use Rattle.std.proofs.lemmas.List.{drop_all}
 use Rattle.std.proofs.lemmas.Option.{slice_get-get_or}
 use Rattle.std.specs.FinMap as map
 use Rattle.calvin_types.specs.Keys.{key_cmp}
-use Rattle.calvin_app.specs.Entries.{get-shown}
+use Rattle.calvin_app.specs.EntryLaws.{get-shown}
 use Rattle.calvin_app.proofs.Puts.{found, passed}
 use Rattle.calvin_store.proofs.list_rows.ListRowsRows.get.Goals as goal
 

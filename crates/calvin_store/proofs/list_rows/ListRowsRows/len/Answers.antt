@@ -1,6 +1,6 @@
 use Rattle.std.proofs.Common.{sym, ap, ◌∙◌}
 use Rattle.std.specs.FinMap as map
-use Rattle.calvin_app.specs.Entries.{len-shown}
+use Rattle.calvin_app.specs.EntryLaws.{len-shown}
 use Rattle.calvin_store.proofs.list_rows.ListRowsRows.len.Goals as goal
 
 pub returns : goal.returns

@@ -1,6 +1,7 @@
 use Rattle.std.proofs.Common.{◌≡◌, sym, ap, ◌∙◌, subst, rules}
 use Rattle.std.specs.FinMap as map
-use Rattle.calvin_app.specs.Entries.{rising, shown, entries_kept}
+use Rattle.calvin_app.specs.Entries.{rising, shown}
+use Rattle.calvin_app.specs.EntryLaws.{entries_kept}
 use Rattle.calvin_app.specs.Stores.{loaded}
 use Rattle.calvin_store.proofs.list_rows.ListRowsRows.load.Goals as goal
 

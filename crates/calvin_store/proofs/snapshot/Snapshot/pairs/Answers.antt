@@ -1,6 +1,6 @@
 use Rattle.std.proofs.Common.{sym, ap, ◌∙◌}
 use Rattle.std.specs.FinMap as map
-use Rattle.calvin_app.specs.Entries.{entries_kept}
+use Rattle.calvin_app.specs.EntryLaws.{entries_kept}
 use Rattle.calvin_store.proofs.snapshot.Snapshot.pairs.Goals as goal
 
 pub returns : goal.returns
