@@ -8,9 +8,9 @@ use Rattle.std.proofs.lemmas.Bool.{eqb-true, false≢true}
 use Rattle.calvin_types.specs.SameKeysLaws.{equal_keys_exact}
 use Rattle.calvin_types.specs.Exact.{pointwise_exact, option_exact, first, second}
 use Rattle.calvin_app.specs.declared.kv.KvRequest.{KvRequest}
-use Rattle.calvin_app.specs.declared.kv.KvRequest.TheVariants.{Put, Get, Add}
+use Rattle.calvin_app.specs.declared.kv.KvRequest.TheVariants.{Put, Get, Add, Move, Follow}
 use Rattle.calvin_app.specs.declared.kv.KvReply.{KvReply}
-use Rattle.calvin_app.specs.declared.kv.KvReply.TheVariants.{Done, Limit, Value, Values}
+use Rattle.calvin_app.specs.declared.kv.KvReply.TheVariants.{Done, Limit, Short, Value, Values, Found}
 use Rattle.calvin_app.specs.Meaning.{IsExact}
 use Rattle.calvin_app.specs.contracts.kv.KvRequestPartialEq.TheImpl as requests
 use Rattle.calvin_app.specs.contracts.kv.KvReplyPartialEq.TheImpl as replies
@@ -24,12 +24,9 @@ pub requests_exact : (a b : KvRequest) → requests.ghosts.eq a b ≡ true → a
 requests_exact (Put x y) (Put z w) h = λ i. Put (eqb-true x z (first _ _ h) i) (eqb-true y w (second _ _ h) i)
 requests_exact (Get x) (Get z) h = ap Get (pointwise_exact _ equal_keys_exact x z h)
 requests_exact (Add x y) (Add z w) h = λ i. Add (eqb-true x z (first _ _ h) i) (eqb-true y w (second _ _ h) i)
-requests_exact (Put x y) (Get z) h = absurd (false≢true h)
-requests_exact (Put x y) (Add z w) h = absurd (false≢true h)
-requests_exact (Get x) (Put z w) h = absurd (false≢true h)
-requests_exact (Get x) (Add z w) h = absurd (false≢true h)
-requests_exact (Add x y) (Put z w) h = absurd (false≢true h)
-requests_exact (Add x y) (Get z) h = absurd (false≢true h)
+requests_exact (Move x y n) (Move z w m) h = λ i. Move (eqb-true x z (first _ _ h) i) (eqb-true y w (first _ _ (second _ _ h)) i) (eqb-true n m (second _ _ (second _ _ h)) i)
+requests_exact (Follow x) (Follow y) h = ap Follow (eqb-true x y h)
+requests_exact _ _ h = absurd (false≢true h)
 
 -- replies that compare equal are the same
 pub replies_exact : (a b : KvReply) → replies.ghosts.eq a b ≡ true → a ≡ b
@@ -37,15 +34,6 @@ replies_exact Done Done h = refl
 replies_exact Limit Limit h = refl
 replies_exact (Value x) (Value y) h = ap Value (eqb-true x y h)
 replies_exact (Values x) (Values y) h = ap Values (pointwise_exact _ (option_exact _ eqb-true) x y h)
-replies_exact Done Limit h = absurd (false≢true h)
-replies_exact Done (Value v) h = absurd (false≢true h)
-replies_exact Done (Values v) h = absurd (false≢true h)
-replies_exact Limit Done h = absurd (false≢true h)
-replies_exact Limit (Value v) h = absurd (false≢true h)
-replies_exact Limit (Values v) h = absurd (false≢true h)
-replies_exact (Value v) Done h = absurd (false≢true h)
-replies_exact (Value v) Limit h = absurd (false≢true h)
-replies_exact (Value v) (Values w) h = absurd (false≢true h)
-replies_exact (Values v) Done h = absurd (false≢true h)
-replies_exact (Values v) Limit h = absurd (false≢true h)
-replies_exact (Values v) (Value w) h = absurd (false≢true h)
+replies_exact Short Short h = refl
+replies_exact (Found x) (Found y) h = ap Found (option_exact _ eqb-true x y h)
+replies_exact _ _ h = absurd (false≢true h)

@@ -6,6 +6,7 @@ pub mod Kv
 pub mod KvExact
 pub mod KvLaws
 pub mod Meaning
+pub mod RowLaws
 pub mod Rows
 pub mod Serial
 pub mod Stores

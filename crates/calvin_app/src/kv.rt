@@ -1,4 +1,4 @@
-//! Numbers by key: they are put, read and added to.
+//! Numbers by key: they are put, read, added to, moved and followed.
 ghost use Rattle.std.specs.Prelude.{◌≡◌, ◌==◌, ◌≤◌, ℕ, false, [], ◌∷◌, length, map};
 ghost use Rattle.std.specs.List.{list_all};
 ghost use Rattle.std.specs.FinMap as finmap;
@@ -6,7 +6,7 @@ ghost use Rattle.std.proofs.Common.{lit<};
 ghost use Rattle.calvin_app.specs.KvExact.{requests_exact, numbers_exact, replies_exact};
 ghost use Rattle.calvin_app.specs.Rows.{Rows};
 ghost use Rattle.calvin_app.specs.declared.answer.Answer.TheVariants.{Reply};
-ghost use Rattle.calvin_app.specs.Kv.{kv, asked};
+ghost use Rattle.calvin_app.specs.Kv.{kv, is_dependent, asked, pair_of, followed, moved};
 ghost use Rattle.calvin_app.specs.KvLaws.{kv_lawful};
 ghost use Rattle.calvin_types.specs.SameKeys.{same_keys};
 
@@ -26,32 +26,37 @@ pub enum KvRequest {
     /// The number under the first grows by the second, and none counts as 0; answered `Value` or `Limit`. It reads and
     /// writes the key.
     Add(u64, u64),
+    /// The number under the first loses the third and the number under the second gains it, and none counts as 0;
+    /// answered `Done`, `Short` or `Limit`. It reads and writes both keys.
+    Move(u64, u64, u64),
+    /// The number under the key that the number under this one names; answered `Found`. It reads the key, and the other
+    /// one where one is named, so its sets depend on a row.
+    Follow(u64),
 }
 
 impl KvRequest {
     /// Adds the keys that the request reads and writes on these rows to sets that have none yet.
     #[inline(always)]
-    pub fn add_needs(&self, _view: &View<u64>, sets: &mut Sets)
+    pub fn add_needs(&self, view: &View<u64>, sets: &mut Sets)
         requires { sets.old ≡ record { reads = []; writes = [] } }
-        ensures { sets.new ≡ kv.needs self.now _view.now }
+        ensures { sets.new ≡ kv.needs self.now view.now }
     {
-        self.add_keys(sets);
+        match self {
+            KvRequest::Follow(id) => {
+                let named = view.get(&key_of(*id));
+                add_followed(*id, named, &mut sets.reads);
+            }
+            _ => self.add_first_needs(sets),
+        }
     }
 
-    /// Adds the keys that the request reads and writes where no row is known to sets that have none yet.
+    /// Adds the keys that the request reads and writes where no row is known to sets that have none yet. Unless it is
+    /// dependent these are the keys that it needs whatever the rows are.
     #[inline(always)]
     pub fn add_first_needs(&self, sets: &mut Sets)
         requires { sets.old ≡ record { reads = []; writes = [] } }
-        ensures { sets.new ≡ kv.needs self.now finmap.empty }
-    {
-        self.add_keys(sets);
-    }
-
-    /// Adds the keys that the request names, which are those that it needs whatever the rows are.
-    #[inline(always)]
-    fn add_keys(&self, sets: &mut Sets)
-        requires { sets.old ≡ record { reads = []; writes = [] } }
-        ensures { (rows : Rows ℕ) → sets.new ≡ kv.needs self.now rows }
+        ensures first { sets.new ≡ kv.needs self.now finmap.empty }
+        ensures fixed { is_dependent self.now ≡ false → (rows : Rows ℕ) → sets.new ≡ kv.needs self.now rows }
     {
         match self {
             KvRequest::Put(id, _) => sets.writes.insert(key_of(*id)).unwrap(),
@@ -60,6 +65,12 @@ impl KvRequest {
                 sets.reads.insert(key_of(*id)).unwrap();
                 sets.writes.insert(key_of(*id)).unwrap();
             }
+            KvRequest::Move(from, to, _) => {
+                let both = pair_of(*from, *to);
+                sets.reads = both;
+                sets.writes = both;
+            }
+            KvRequest::Follow(id) => add_followed(*id, None, &mut sets.reads),
         }
     }
 }
@@ -71,10 +82,14 @@ pub enum KvReply {
     Done,
     /// The sum would be above 2^64 - 1, and nothing was written.
     Limit,
+    /// There is less than is to be moved, and nothing was written.
+    Short,
     /// The sum, which was written.
     Value(u64),
     /// For each key asked for, ascending, its number or none.
     Values(Few<Option<u64>>),
+    /// The number under the key that was followed to, or none.
+    Found(Option<u64>),
 }
 
 /// The application, which keeps nothing itself: the numbers are its rows.
@@ -86,6 +101,26 @@ fn key_of(id: u64) -> Key
     ensures { result ≡ record { table = 0; id = id } }
 {
     Key { table: 0, id }
+}
+
+/// The set of the keys with these numbers, which may be one.
+fn pair_of(first: u64, second: u64) -> KeySet
+    ensures { result ≡ pair_of first second }
+{
+    let mut pair = KeySet::of(key_of(first));
+    pair.grow(key_of(second));
+    pair
+}
+
+/// Adds a key, and the one that its row names if it has one, to a set that has none.
+fn add_followed(id: u64, named: Option<u64>, set: &mut KeySet)
+    requires { set.old ≡ [] }
+    ensures { set.new ≡ followed id named }
+{
+    *set = match named {
+        Some(other) => pair_of(id, other),
+        None => KeySet::of(key_of(id)),
+    };
 }
 
 /// Whether a get asks for all of the keys. They rise, so the last one is of the highest table.
@@ -174,6 +209,26 @@ fn add_asked_values(keys: &KeySet, view: &View<u64>, values: &mut Few<Option<u64
     }
 }
 
+/// What a move replies and writes where the numbers under its two keys are these.
+fn moved(from: u64, to: u64, amount: u64, source: u64, target: u64) -> (KvReply, Writes<u64>)
+    ensures { result ≡ moved from to amount source target }
+{
+    if source < amount {
+        return (KvReply::Short, Writes::new());
+    }
+    if from == to {
+        return (KvReply::Done, Writes::new());
+    }
+    match target.checked_add(amount) {
+        Some(sum) => {
+            let mut writes = Writes::of(key_of(from), source - amount);
+            writes.push(key_of(to), sum);
+            (KvReply::Done, writes)
+        }
+        None => (KvReply::Limit, Writes::new()),
+    }
+}
+
 /// Replies to a request, in place of any answer that stands there, and gives what it writes.
 #[inline(always)]
 fn answer_to(args: &KvRequest, view: &View<u64>, answer: &mut Answer<KvReply>) -> Writes<u64>
@@ -205,6 +260,21 @@ fn answer_to(args: &KvRequest, view: &View<u64>, answer: &mut Answer<KvReply>) -
                 }
             }
         }
+        KvRequest::Move(from, to, amount) => {
+            let source = view.get(&key_of(*from)).unwrap_or(0);
+            let target = view.get(&key_of(*to)).unwrap_or(0);
+            let (reply, writes) = moved(*from, *to, *amount, source, target);
+            *answer = Answer::Reply(reply);
+            writes
+        }
+        KvRequest::Follow(id) => {
+            let found = match view.get(&key_of(*id)) {
+                Some(other) => view.get(&key_of(other)),
+                None => None,
+            };
+            *answer = Answer::Reply(KvReply::Found(found));
+            Writes::new()
+        }
     }
 }
 
@@ -217,7 +287,7 @@ impl App for Kv {
 
     ghost meaning = { kv };
 
-    ghost is_dependent = { λ _. false };
+    ghost is_dependent = { is_dependent };
 
     ghost key_limit = { 16 };
 
@@ -231,8 +301,8 @@ impl App for Kv {
         0
     }
 
-    fn dependent(&self, _args: &KvRequest) -> bool {
-        false
+    fn dependent(&self, args: &KvRequest) -> bool {
+        matches!(args, KvRequest::Follow(_))
     }
 
     fn sets(&self, args: &KvRequest, view: &View<u64>) -> Sets {
@@ -244,12 +314,21 @@ impl App for Kv {
         sets
     }
 
-    fn needs_only(&self, args: &KvRequest, _view: &View<u64>, sets: &Sets) -> bool {
+    fn needs_only(&self, args: &KvRequest, view: &View<u64>, sets: &Sets) -> bool {
         match args {
             KvRequest::Put(id, _) => is_none(&sets.reads) && is_only(key_of(*id), &sets.writes),
             KvRequest::Get(keys) => are_asked(keys, &sets.reads) && is_none(&sets.writes),
             KvRequest::Add(id, _) => {
                 is_only(key_of(*id), &sets.reads) && is_only(key_of(*id), &sets.writes)
+            }
+            KvRequest::Move(from, to, _) => {
+                let both = pair_of(*from, *to);
+                both == sets.reads && both == sets.writes
+            }
+            KvRequest::Follow(id) => {
+                let mut reads = KeySet::new();
+                add_followed(*id, view.get(&key_of(*id)), &mut reads);
+                reads == sets.reads && is_none(&sets.writes)
             }
         }
     }

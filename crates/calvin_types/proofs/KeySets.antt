@@ -11,7 +11,8 @@ use Rattle.calvin_types.specs.KeyOrder.{key_cmp_exact}
 or_left_comm : (a b c : Bool) → (a || (b || c)) ≡ (b || (a || c))
 or_left_comm a b c = sym (or_assoc a b c) ∙ ap (λ d. d || c) (or_comm a b) ∙ or_assoc b a c
 
-has-insert_key : (x q : Key) (ks : List Key) → has (insert_key q ks) x ≡ (same_key x q || has ks x)
+-- a set has the key that was put in, and those that were there
+pub has-insert_key : (x q : Key) (ks : List Key) → has (insert_key q ks) x ≡ (same_key x q || has ks x)
 has-insert_key x q [] = refl
 has-insert_key x q (k ∷ ks) = elim (key_cmp q k) as (λ o. key_cmp q k ≡ o → has (by_order o (q ∷ k ∷ ks) (k ∷ ks) (k ∷ insert_key q ks)) x ≡ (same_key x q || has (k ∷ ks) x)) [
   | Less ↦ λ is. refl
@@ -20,7 +21,7 @@ has-insert_key x q (k ∷ ks) = elim (key_cmp q k) as (λ o. key_cmp q k ≡ o �
 ] refl
 
 -- the set has the keys that were put in, and those that were there
-has-insert_all : (x : Key) (qs ks : List Key) → has (insert_all qs ks) x ≡ (has qs x || has ks x)
+pub has-insert_all : (x : Key) (qs ks : List Key) → has (insert_all qs ks) x ≡ (has qs x || has ks x)
 has-insert_all x [] ks = refl
 has-insert_all x (q ∷ qs) ks = has-insert_all x qs (insert_key q ks) ∙ ap (λ b. has qs x || b) (has-insert_key x q ks) ∙ or_left_comm (has qs x) (same_key x q) (has ks x) ∙ sym (or_assoc (same_key x q) (has qs x) (has ks x))
 
