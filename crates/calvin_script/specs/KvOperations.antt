@@ -1,7 +1,7 @@
 -- The operations of the application Kv as they are written.
---     two_numbers d      the two numbers that follow the name of an operation, and nothing after them
---     put d, get_of d, add d      each operation
---     kv_operation d      `["put",k,v]`, `["get",[k, ..]]` or `["add",k,d]`
+--     one_number d, two_numbers d, three_numbers d      the numbers that follow the name of an operation, and nothing after them
+--     put d, get_of d, add d, move_of d, follow_of d      each operation
+--     kv_operation d      one of them
 --     kv_grammar      Kv's name, its operations, and the sets of each on the empty view; declared sets are complete
 use Rattle.std.specs.Prelude.{ℕ, ◌^◌, if◌then◌else◌, Option, Some, option_and_then, option_map, is_none, codes, bytes_eq}
 use Rattle.std.specs.FinMap as finmap
@@ -9,7 +9,7 @@ use Rattle.serde_json.specs.Data.{Data}
 use Rattle.serde_json.specs.Find.{at, as_str}
 use Rattle.calvin_types.specs.declared.key.Key.{Key}
 use Rattle.calvin_app.specs.declared.kv.KvRequest.{KvRequest}
-use Rattle.calvin_app.specs.declared.kv.KvRequest.TheVariants.{Put, Get, Add}
+use Rattle.calvin_app.specs.declared.kv.KvRequest.TheVariants.{Put, Get, Add, Move, Follow}
 use Rattle.calvin_app.specs.Kv.{kv, key_of}
 use Rattle.calvin_script.specs.Spelling.{◌>>=◌, only_if, below}
 use Rattle.calvin_script.specs.KeyLists.{key_set}
@@ -19,12 +19,24 @@ use Rattle.calvin_script.specs.Grammar.{Grammar, as_declared}
 abbrev pub row_key : Data → Option Key
 row_key d = option_map key_of (below (2 ^ 64) d)
 
+-- the number that follows the name of an operation, and nothing after it
+unfoldable pub one_number : Data → Option ℕ
+one_number d = only_if (is_none (at 2 d)) (option_and_then (below (2 ^ 64)) (at 1 d))
+
 -- the two numbers that follow the name of an operation, and nothing after them
 unfoldable pub two_numbers : Data → Option (ℕ × ℕ)
 two_numbers d = only_if (is_none (at 3 d)) (do
   first ← option_and_then (below (2 ^ 64)) (at 1 d)
   second ← option_and_then (below (2 ^ 64)) (at 2 d)
   Some (first, second))
+
+-- the three numbers that follow the name of an operation, and nothing after them
+unfoldable pub three_numbers : Data → Option (ℕ × ℕ × ℕ)
+three_numbers d = only_if (is_none (at 4 d)) (do
+  first ← option_and_then (below (2 ^ 64)) (at 1 d)
+  second ← option_and_then (below (2 ^ 64)) (at 2 d)
+  third ← option_and_then (below (2 ^ 64)) (at 3 d)
+  Some (first, second, third))
 
 -- `["put",k,v]`
 unfoldable pub put : Data → Option KvRequest
@@ -40,10 +52,18 @@ get_of d = only_if (is_none (at 2 d)) (do
 unfoldable pub add : Data → Option KvRequest
 add d = option_map (λ n. Add n.0 n.1) (two_numbers d)
 
+-- `["move",a,b,n]`
+unfoldable pub move_of : Data → Option KvRequest
+move_of d = option_map (λ n. Move n.0 n.1 n.2) (three_numbers d)
+
+-- `["follow",k]`
+unfoldable pub follow_of : Data → Option KvRequest
+follow_of d = option_map Follow (one_number d)
+
 unfoldable pub kv_operation : Data → Option KvRequest
 kv_operation d = do
   name ← option_and_then as_str (at 0 d)
-  if bytes_eq name (codes "put") then put d else (if bytes_eq name (codes "get") then get_of d else only_if (bytes_eq name (codes "add")) (add d))
+  if bytes_eq name (codes "put") then put d else (if bytes_eq name (codes "get") then get_of d else (if bytes_eq name (codes "add") then add d else (if bytes_eq name (codes "move") then move_of d else only_if (bytes_eq name (codes "follow")) (follow_of d))))
 
 abbrev pub kv_grammar : Grammar KvRequest
 kv_grammar = record { app_name = codes "kv"; operation = λ _ d. kv_operation d; first_needs = λ a. kv.needs a finmap.empty; completed = as_declared }

@@ -2,7 +2,7 @@
 ghost use Rattle.std.specs.Prelude.{◌≡◌, [], option_map};
 ghost use Rattle.serde_json.specs.View.{view};
 ghost use Rattle.calvin_app.specs.declared.kv.KvRequest.TheVariants.{Get};
-ghost use Rattle.calvin_script.specs.KvOperations.{two_numbers, get_of};
+ghost use Rattle.calvin_script.specs.KvOperations.{one_number, two_numbers, three_numbers, get_of};
 
 use crate::fields::u64_of;
 use crate::key_list::{KeyForm, read_key_set};
@@ -25,6 +25,17 @@ impl KeyForm for RowNumber {
     }
 }
 
+/// The number that follows the name of an operation.
+#[tactic(auto, unfolding(crate::specs::KvOperations::one_number))]
+fn one_number(value: &Value) -> Option<u64>
+    ensures { result ≡ one_number (view value.now) }
+{
+    if value.get(2).is_some() {
+        return None;
+    }
+    u64_of(value.get(1)?)
+}
+
 /// The two numbers that follow the name of an operation.
 #[tactic(auto, unfolding(crate::specs::KvOperations::two_numbers))]
 fn two_numbers(value: &Value) -> Option<(u64, u64)>
@@ -36,6 +47,20 @@ fn two_numbers(value: &Value) -> Option<(u64, u64)>
     let first = u64_of(value.get(1)?)?;
     let second = u64_of(value.get(2)?)?;
     Some((first, second))
+}
+
+/// The three numbers that follow the name of an operation.
+#[tactic(auto, unfolding(crate::specs::KvOperations::three_numbers))]
+fn three_numbers(value: &Value) -> Option<(u64, u64, u64)>
+    ensures { result ≡ three_numbers (view value.now) }
+{
+    if value.get(4).is_some() {
+        return None;
+    }
+    let first = u64_of(value.get(1)?)?;
+    let second = u64_of(value.get(2)?)?;
+    let third = u64_of(value.get(3)?)?;
+    Some((first, second, third))
 }
 
 /// The keys of a get.
@@ -63,7 +88,7 @@ impl Operation for KvRequest {
         KvRequest::Put(0, 0)
     }
 
-    #[tactic(auto, unfolding(crate::specs::KvOperations::kv_operation, crate::specs::KvOperations::put, crate::specs::KvOperations::add))]
+    #[tactic(auto, unfolding(crate::specs::KvOperations::kv_operation, crate::specs::KvOperations::put, crate::specs::KvOperations::add, crate::specs::KvOperations::move_of, crate::specs::KvOperations::follow_of))]
     fn read(&mut self, _id: RequestId, value: &Value) -> Option<()> {
         let name = value.get(0)?.as_str()?;
         if name == "put" {
@@ -77,6 +102,11 @@ impl Operation for KvRequest {
         } else if name == "add" {
             let (id, amount) = two_numbers(value)?;
             *self = KvRequest::Add(id, amount);
+        } else if name == "move" {
+            let (from, to, amount) = three_numbers(value)?;
+            *self = KvRequest::Move(from, to, amount);
+        } else if name == "follow" {
+            *self = KvRequest::Follow(one_number(value)?);
         } else {
             return None;
         }

@@ -33,8 +33,10 @@ values_text (v ∷ vs) = value_text v ++ flat_map (λ w. codes " " ++ value_text
 abbrev pub kv_text : KvReply → List ℕ
 kv_text reply.Done = codes "done"
 kv_text reply.Limit = codes "limit"
+kv_text reply.Short = codes "short"
 kv_text (reply.Value sum) = value_text (Some sum)
 kv_text (reply.Values values) = values_text values
+kv_text (reply.Found value) = value_text value
 
 module _ {Reply : Type 0} (show : Reply → List ℕ) where
   abbrev pub answer_text : Answer Reply → List ℕ

@@ -79,8 +79,10 @@ impl Printed for KvReply {
         match self {
             KvReply::Done => text.extend_from_slice(b"done"),
             KvReply::Limit => text.extend_from_slice(b"limit"),
+            KvReply::Short => text.extend_from_slice(b"short"),
             KvReply::Value(sum) => push_value(text, Some(*sum)),
             KvReply::Values(values) => push_values(text, values),
+            KvReply::Found(value) => push_value(text, *value),
         }
     }
 }
