@@ -3,6 +3,7 @@ ghost use Rattle.std.specs.Prelude.{◌≡◌, [], IsOk, OnOk, OnErr, IsOkUnless
 ghost use Rattle.std.specs.FinMap as map;
 ghost use Rattle.calvin_app.specs.Rows.{view, overwritten};
 
+use crate::look::{Look, look_up};
 use crate::view::View;
 use crate::writes::Writes;
 use calvin_types::{Fault, Key, KeySet};
@@ -50,13 +51,7 @@ impl<Row: Copy> Table<Row> {
         requires { seen.old ≡ map.empty }
         ensures { seen.new ≡ view self.now keys.now }
     {
-        for i in 0..keys.len() {
-            let key = keys.at(i);
-            match self.get(&key) {
-                Some(row) => seen.put(key, row),
-                None => {}
-            }
-        }
+        look_up(self, keys, seen);
     }
 
     /// Overwrites rows, all of them or none: refused for want of memory before the first is written, and never where
@@ -74,5 +69,13 @@ impl<Row: Copy> Table<Row> {
             let _before = put.unwrap();
         }
         Ok(())
+    }
+}
+
+impl<Row: Copy> Look<Row> for Table<Row> {
+    ghost shown = { λ rows. rows };
+
+    fn look(&self, key: &Key) -> Option<Row> {
+        self.get(key)
     }
 }

@@ -1,10 +1,10 @@
 use Rattle.std.proofs.Common.{◌≡◌, ◌≤◌, take}
 use Rattle.std.specs.FinMap as map
 use Rattle.calvin_app.specs.Rows.{view}
-use Rattle.calvin_app.proofs.table.Table.look_up.Given as goal
+use Rattle.calvin_app.proofs.look.look_up.Given as goal
 
 abbrev pub invariant-loop-i : goal.invariant-loop-i
 invariant-loop-i g l = record {
-  so_far : l.seen ≡ view l.self (take l.i l.keys);
+  so_far : l.seen ≡ view (g.L.Look.shown l.rows) (take l.i l.keys);
   number : map.len l.seen ≤ l.i;
 }

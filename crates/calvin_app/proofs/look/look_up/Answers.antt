@@ -4,25 +4,26 @@ use Rattle.calvin_types.specs.Keys.{key_cmp}
 use Rattle.calvin_types.proofs.Fews.{take_at}
 use Rattle.calvin_app.specs.Rows.{view}
 use Rattle.calvin_app.proofs.Views.{view-none, view-push_row, view-push_none, len-insert-le}
-use Rattle.calvin_app.proofs.table.Table.look_up.Goals as goal
-use Rattle.calvin_app.proofs.table.Table.look_up.Goals.{in-Some, in-None}
+use Rattle.calvin_app.proofs.look.look_up.Goals as goal
+use Rattle.calvin_app.proofs.look.look_up.Goals.{in-Some, in-None}
 
 pub loop-i-init : goal.loop-i-init
 loop-i-init g c = record {
-  so_far = c.requires ∙ view-none c.args.self.now;
+  so_far = c.requires ∙ view-none (g.L.Look.shown c.args.rows.now);
   number = omega (arith, ap map.len c.requires, map.len-empty key_cmp g.row.Row.Denot);
 }
 
 pub loop-i-preserved : goal.loop-i-preserved
 loop-i-preserved g c =
+    let shown = g.L.Look.shown c.args.rows.now in
     let more = take_at c.args.keys.now c.loop-i.i c.at-key.result c.at-key.ensures in
-    elim c.match-get.branch [
+    elim c.match-look.branch [
       | in-Some w ↦ record {
-        so_far = w.seen-is ∙ w.put.ensures ∙ ap (λ m. map.insert m c.at-key.result w.in-Some.row) c.loop-i.invariant.so_far ∙ view-push_row c.args.self.now _ c.at-key.result w.in-Some.row (sym w.in-Some.ensures) ∙ ap (view c.args.self.now) (sym more);
+        so_far = w.seen-is ∙ w.put.ensures ∙ ap (λ m. map.insert m c.at-key.result w.in-Some.row) c.loop-i.invariant.so_far ∙ view-push_row shown _ c.at-key.result w.in-Some.row (sym w.in-Some.ensures) ∙ ap (view shown) (sym more);
         number = omega (arith, ap map.len (w.seen-is ∙ w.put.ensures), len-insert-le c.loop-i.seen c.at-key.result w.in-Some.row, c.loop-i.invariant.number);
       }
       | in-None w ↦ record {
-        so_far = w.seen-is ∙ c.loop-i.invariant.so_far ∙ view-push_none c.args.self.now _ c.at-key.result (sym w.in-None.ensures) ∙ ap (view c.args.self.now) (sym more);
+        so_far = w.seen-is ∙ c.loop-i.invariant.so_far ∙ view-push_none shown _ c.at-key.result (sym w.in-None.ensures) ∙ ap (view shown) (sym more);
         number = omega (arith, ap map.len w.seen-is, c.loop-i.invariant.number);
       }
     ]
