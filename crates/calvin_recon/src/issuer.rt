@@ -19,6 +19,7 @@ pub enum Next<Args> {
 /// Issues one request: a first attempt, and after each that was answered `Changed` another, with other sets, up to the
 /// eighth (Thomson et al. 2012, section 3.2.1: a request whose sets have changed is issued again). Contracts see it as the
 /// last attempt.
+#[derive(Drop)]
 pub struct Issuer<Args> {
     txn: Txn<Args>,
 }
