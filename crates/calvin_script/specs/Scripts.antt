@@ -31,6 +31,12 @@ pub record Contents (Args : Type 0) : Type 0 where
   pub partitions : ℕ
   pub epochs : List (List (Listed Args))
 
+abbrev pub batch_names : List (List ℕ)
+batch_names = codes "group" ∷ codes "txns" ∷ []
+
+abbrev pub script_names : List (List ℕ)
+script_names = codes "partitions" ∷ codes "app" ∷ codes "epochs" ∷ []
+
 module _ {Args : Type 0} where
   -- the requests that are listed for a group
   abbrev pub requests_of : ℕ → List (Listed Args) → List (Request Args)
@@ -66,7 +72,7 @@ module _ {Args : Type 0} where
 
   -- `{"group":G,"txns":[TXN, ..]}`
   unfoldable pub batch : Grammar Args → Data → Option (Listed Args)
-  batch grammar d = only_if (has_only (codes "group" ∷ codes "txns" ∷ []) d) (do
+  batch grammar d = only_if (has_only batch_names d) (do
     group ← option_and_then (below (2 ^ 8)) (get (codes "group") d)
     requests ← option_and_then (list (request grammar)) (get (codes "txns") d)
     batch_of group requests)
@@ -80,7 +86,7 @@ module _ {Args : Type 0} where
   script_of partitions epochs = only_if (list_all (groups_fit partitions) epochs) (Some (record { partitions = partitions; epochs = epochs }))
 
   unfoldable pub script : Grammar Args → Data → Option (Contents Args)
-  script grammar d = only_if (has_only (codes "partitions" ∷ codes "app" ∷ codes "epochs" ∷ []) d) (do
+  script grammar d = only_if (has_only script_names d) (do
     partitions ← option_and_then (between 1 16) (get (codes "partitions") d)
     app ← option_and_then as_str (get (codes "app") d)
     epochs ← option_and_then (list (list (batch grammar))) (get (codes "epochs") d)
