@@ -2,3 +2,4 @@ pub mod Lists
 pub mod Json
 pub mod KeySets
 pub mod Names
+pub mod Apps

@@ -3,6 +3,8 @@
 --     requests_at contents slot      the requests listed for the slot's group in the slot's epoch; none where no batch is
 --     batch_at contents slot      the batch that they are
 --     are_taken requests      a sequencer takes each of them
+--     batch_of group requests      the group's batch of these requests, where they may be one
+--     script_of partitions epochs      the script of these epochs, where their groups fit
 --     script grammar d      `{"partitions":P,"app":NAME,"epochs":[[{"group":G,"txns":[TXN, ..]}, ..], ..]}`
 use Rattle.std.specs.Prelude.{ℕ, ◌&&◌, ◌^◌, List, [], ◌∷◌, length, map, Bool, true, not, nat_lt, nat_le, nat_eq, if◌then◌else◌, Option, Some, option_and_then, codes, bytes_eq, get_or}
 use Rattle.std.specs.List.{list_any, list_all}
@@ -28,6 +30,12 @@ pub record Listed (Args : Type 0) : Type 0 where
 pub record Contents (Args : Type 0) : Type 0 where
   pub partitions : ℕ
   pub epochs : List (List (Listed Args))
+
+abbrev pub batch_names : List (List ℕ)
+batch_names = codes "group" ∷ codes "txns" ∷ []
+
+abbrev pub script_names : List (List ℕ)
+script_names = codes "partitions" ∷ codes "app" ∷ codes "epochs" ∷ []
 
 module _ {Args : Type 0} where
   -- the requests that are listed for a group
@@ -58,21 +66,28 @@ module _ {Args : Type 0} where
   abbrev pub are_taken : List (Request Args) → Bool
   are_taken requests = list_all (λ r. is_taken r.txn) requests
 
-  -- `{"group":G,"txns":[TXN, ..]}`, at most 256 requests, each of which a sequencer takes
+  -- at most 256 requests, each of which a sequencer takes
+  abbrev pub batch_of : ℕ → List (Request Args) → Option (Listed Args)
+  batch_of group requests = only_if (nat_le (length requests) MOST_REQUESTS && are_taken requests) (Some (record { group = group; requests = requests }))
+
+  -- `{"group":G,"txns":[TXN, ..]}`
   unfoldable pub batch : Grammar Args → Data → Option (Listed Args)
-  batch grammar d = only_if (has_only (codes "group" ∷ codes "txns" ∷ []) d) (do
+  batch grammar d = only_if (has_only batch_names d) (do
     group ← option_and_then (below (2 ^ 8)) (get (codes "group") d)
     requests ← option_and_then (list (request grammar)) (get (codes "txns") d)
-    only_if (nat_le (length requests) MOST_REQUESTS && are_taken requests) (Some (record { group = group; requests = requests })))
+    batch_of group requests)
 
   -- each group is one of the partitions, and none is listed twice
   abbrev pub groups_fit : ℕ → List (Listed Args) → Bool
   groups_fit partitions [] = true
   groups_fit partitions (b ∷ bs) = nat_lt b.group partitions && not (list_any (λ c. nat_eq c.group b.group) bs) && groups_fit partitions bs
 
+  abbrev pub script_of : ℕ → List (List (Listed Args)) → Option (Contents Args)
+  script_of partitions epochs = only_if (list_all (groups_fit partitions) epochs) (Some (record { partitions = partitions; epochs = epochs }))
+
   unfoldable pub script : Grammar Args → Data → Option (Contents Args)
-  script grammar d = only_if (has_only (codes "partitions" ∷ codes "app" ∷ codes "epochs" ∷ []) d) (do
+  script grammar d = only_if (has_only script_names d) (do
     partitions ← option_and_then (between 1 16) (get (codes "partitions") d)
     app ← option_and_then as_str (get (codes "app") d)
     epochs ← option_and_then (list (list (batch grammar))) (get (codes "epochs") d)
-    only_if (bytes_eq app grammar.app_name && list_all (groups_fit partitions) epochs) (Some (record { partitions = partitions; epochs = epochs })))
+    only_if (bytes_eq app grammar.app_name) (script_of partitions epochs))

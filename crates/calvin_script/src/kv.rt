@@ -12,7 +12,7 @@ use calvin_types::{Key, KeySet, RequestId, Sets};
 use serde_json::Value;
 
 /// A key of table 0, written as its number there.
-struct RowNumber;
+pub struct RowNumber;
 
 impl KeyForm for RowNumber {
     ghost use Rattle.calvin_script.specs.KvOperations.{row_key};

@@ -1,5 +1,5 @@
 //! The scripts that the bytes of JSON spell: epochs of batches of requests, for any application that says how its own
-//! operations are written. It is the only crate that reads JSON.
+//! operations are written. It is the only crate that calls `serde_json`.
 #![tactic(auto)]
 
 mod contents;
@@ -15,6 +15,7 @@ mod script;
 
 pub use contents::{Epoch, GroupBatch, Request, Script};
 pub use key_list::{KeyForm, WholeKey, read_key_set};
+pub use kv::RowNumber;
 pub use operation::Operation;
 pub use reading::{AppName, Document, script_from};
 

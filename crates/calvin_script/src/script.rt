@@ -1,8 +1,9 @@
 //! Batches, epochs and the whole script.
-ghost use Rattle.std.specs.Prelude.{◌≡◌, map, nat_eq};
+ghost use Rattle.std.specs.Prelude.{◌≡◌, map, nat_eq, option_map};
 ghost use Rattle.std.specs.List.{list_all, list_any};
 ghost use Rattle.serde_json.specs.View.{view};
-ghost use Rattle.calvin_script.specs.Scripts.{are_taken, listed, all_listed, contents, groups_fit, script};
+ghost use Rattle.calvin_types.specs.Limits.{IsInRange};
+ghost use Rattle.calvin_script.specs.Scripts.{are_taken, listed, all_listed, batch_of, contents, groups_fit, script, script_of};
 ghost use Rattle.calvin_script.specs.Gives.{Gives};
 
 use crate::contents::{Epoch, GroupBatch, Request, Script};
@@ -23,6 +24,18 @@ fn are_taken<Args: Copy>(requests: &[Request<Args>]) -> bool
         }
     }
     true
+}
+
+impl<Args: Copy> GroupBatch<Args> {
+    /// The batch of these requests for a group: none of more than 256, nor with one that no sequencer takes.
+    pub fn new(group: u8, requests: Vec<Request<Args>>) -> Option<GroupBatch<Args>>
+        ensures { option_map listed result ≡ batch_of group requests.items }
+    {
+        if requests.len() > MOST_REQUESTS || !are_taken(&requests) {
+            return None;
+        }
+        Some(GroupBatch { group, requests })
+    }
 }
 
 impl<Op: Operation> Spelled for GroupBatch<Op> {
@@ -47,10 +60,8 @@ impl<Op: Operation> Spelled for GroupBatch<Op> {
         let group = u8_of(group).ok_or(ScriptError::BadScript)?;
         let requests = value.get_mut("txns").ok_or(ScriptError::BadScript)?.take();
         let requests = list_of(alloc, requests)?;
-        if requests.len() > MOST_REQUESTS || !are_taken(&requests) {
-            return Err(ScriptError::BadScript);
-        }
-        found.push(GroupBatch { group, requests })?;
+        let batch = GroupBatch::new(group, requests).ok_or(ScriptError::BadScript)?;
+        found.push(batch)?;
         Ok(())
     }
 }
@@ -111,6 +122,20 @@ fn all_groups_fit<Args>(partitions: u8, epochs: &[Epoch<Args>]) -> bool
     true
 }
 
+impl<Args: Drop> Script<Args> {
+    /// The script of these epochs, for so many partitions: none that lists a batch for a group that is no partition, or
+    /// two for one group in an epoch.
+    pub fn new(partitions: u8, epochs: Vec<Epoch<Args>>) -> Option<Script<Args>>
+        requires { IsInRange partitions 1 }
+        ensures { option_map contents result ≡ script_of partitions (map all_listed epochs.items) }
+    {
+        if !all_groups_fit(partitions, &epochs) {
+            return None;
+        }
+        Some(Script { partitions, epochs })
+    }
+}
+
 /// The script that a piece of JSON spells.
 #[tactic(auto, unfolding(crate::specs::Scripts::script))]
 pub(crate) fn script_of<Op: Operation>(
@@ -134,8 +159,5 @@ pub(crate) fn script_of<Op: Operation>(
         .ok_or(ScriptError::BadScript)?
         .take();
     let epochs = list_of(alloc, epochs)?;
-    if !all_groups_fit(partitions, &epochs) {
-        return Err(ScriptError::BadScript);
-    }
-    Ok(Script { partitions, epochs })
+    Script::new(partitions, epochs).ok_or(ScriptError::BadScript)
 }

@@ -1,3 +1,4 @@
 pub mod Blanks
 pub mod Requests
 pub mod Runs
+pub mod Usual

@@ -15,6 +15,7 @@ use calvin_app::{Answer, App, Kv, Serial, View};
 use calvin_edge::{MOST_BYTES, Sink, Source, read_all, write_all};
 use calvin_script::{AppName, Document, Operation, Script};
 use calvin_text::{Printed, push_finished};
+use calvin_tokens::usual_script;
 use calvin_types::Fault;
 use std::alloc::Global;
 
@@ -47,10 +48,14 @@ where
     text_of(alloc, app, &script)
 }
 
-/// The text for the bytes of a script, for the application that it names.
+/// The text for the bytes of a script, for the application that it names. A script that is written as usual is read
+/// without its JSON as a value.
 fn answer(alloc: Global, bytes: &[u8]) -> Result<Vec<u8>, Fault>
     ensures { Reads (λ text. text.items) result (and_then (json bytes.now) text_in) }
 {
+    if let Some(script) = usual_script(alloc, bytes) {
+        return text_of(alloc, Kv, &script);
+    }
     let document = Document::read(alloc, bytes)?;
     match document.app() {
         Some(AppName::Kv) => answer_for(alloc, Kv, document),

@@ -1,0 +1,19 @@
+use Rattle.std.proofs.Common.{◌≡◌, ◌∷◌, codes, ap, ◌∙◌}
+use Rattle.json.specs.Token as token
+use Rattle.calvin_tokens.proofs.Operations.{put_spelled, add_spelled, get_spelled}
+use Rattle.calvin_tokens.proofs.kv.KvRequestOperationTokens.read_tokens.Goals as goal
+
+pub returns-in_ok-id : goal.returns-in_ok-id
+returns-in_ok-id c =
+    let is : c.opens_array.new.reader ≡ token.string (codes "put") ∷ c.string_at.new.reader = c.in_ok-name.ensures ∙ ap (λ s. token.string s ∷ c.string_at.new.reader) (c.is_same.ensures c.if-is_same.true) in
+    put_spelled c.in_ok-id.id c.in_ok-id.number c.args.reader.now c.opens_array.new.reader c.string_at.new.reader c.two_numbers.new.reader c.in_ok-opens_array.ensures c.in_ok-id.ensures.below.0 c.in_ok-id.ensures.below.1 c.in_ok-id.ensures.read is
+
+pub returns-in_ok-closes_array : goal.returns-in_ok-closes_array
+returns-in_ok-closes_array c =
+    let is : c.opens_array.new.reader ≡ token.string (codes "get") ∷ c.string_at.new.reader = c.in_ok-name.ensures ∙ ap (λ s. token.string s ∷ c.string_at.new.reader) (c.is_same-else-is_same.ensures c.if-is_same-2.true) in
+    get_spelled c.read_key_set.new.keys c.args.reader.now c.opens_array.new.reader c.string_at.new.reader c.read_key_set.new.reader c.closes_array.new.reader c.in_ok-opens_array.ensures is c.in_ok-read_key_set.ensures c.in_ok-closes_array.ensures
+
+pub returns-in_ok-id-2 : goal.returns-in_ok-id-2
+returns-in_ok-id-2 c =
+    let is : c.opens_array.new.reader ≡ token.string (codes "add") ∷ c.string_at.new.reader = c.in_ok-name.ensures ∙ ap (λ s. token.string s ∷ c.string_at.new.reader) (c.is_same-else-is_same-2.ensures c.if-is_same-3.true) in
+    add_spelled c.in_ok-id-2.id c.in_ok-id-2.amount c.args.reader.now c.opens_array.new.reader c.string_at.new.reader c.two_numbers-then-is_same-3.new.reader c.in_ok-opens_array.ensures c.in_ok-id-2.ensures.below.0 c.in_ok-id-2.ensures.below.1 c.in_ok-id-2.ensures.read is

@@ -1,0 +1,49 @@
+use Rattle.std.proofs.Common.{◌^◌, codes, arith}
+use Rattle.calvin_script.specs.Spelling.{below}
+use Rattle.calvin_script.specs.KeyLists.{key, key_set}
+use Rattle.calvin_tokens.specs.Gathered.{HoldsRequest}
+use Rattle.calvin_tokens.specs.Names.{nameless}
+use Rattle.calvin_tokens.proofs.Held.{member_read, client_held, own_number_held, op_held, attempt_held, reads_held, writes_held}
+use Rattle.calvin_tokens.proofs.request.RequestMembersObject.read_member.Goals as goal
+
+pub returns-then-is_same : goal.returns-then-is_same
+returns-then-is_same g c found h =
+    let G = g.Op.Operation.grammar in
+    let s = c.in_ok-self.ensures in
+    member_read (below (2 ^ 32)) c.in_ok-self.field-0 (HoldsRequest G) 121 0 found c.args.name.now (codes "client") c.args.reader.now c.u32_of.new.reader _ (c.is_same.ensures c.if-is_same.true) (omega arith) s
+    (client_held G found s.piece c.args.self.now h c.in_ok-self.field-0 s.means)
+
+pub returns-then-is_same-2 : goal.returns-then-is_same-2
+returns-then-is_same-2 g c found h =
+    let G = g.Op.Operation.grammar in
+    let s = c.in_ok-self-2.ensures in
+    member_read (below (2 ^ 32)) c.in_ok-self-2.field-0 (HoldsRequest G) 121 0 found c.args.name.now (codes "number") c.args.reader.now c.u32_of-then-is_same-2.new.reader _ (c.is_same-2.ensures c.if-is_same-2.true) (omega arith) s
+    (own_number_held G found s.piece c.args.self.now h c.in_ok-self-2.field-0 s.means)
+
+pub returns-then-is_same-3 : goal.returns-then-is_same-3
+returns-then-is_same-3 g c found h =
+    let G = g.Op.Operation.grammar in
+    let s = c.in_ok-read_tokens.ensures in
+    member_read (G.operation nameless) c.read_tokens.new.self (HoldsRequest G) 121 121 found c.args.name.now (codes "op") c.args.reader.now c.read_tokens.new._reader _ (c.is_same-3.ensures c.if-is_same-3.true) (omega arith) s
+    (op_held G found s.piece c.args.self.now h c.read_tokens.new.self s.means)
+
+pub returns-then-is_empty : goal.returns-then-is_empty
+returns-then-is_empty g c found h =
+    let G = g.Op.Operation.grammar in
+    let s = c.in_ok-read_key_set.ensures in
+    member_read (key_set key) c.read_key_set.new.keys (HoldsRequest G) 121 2 found c.args.name.now (codes "reads") c.args.reader.now c.read_key_set.new.reader _ (c.is_same-4.ensures c.if-is_same-4.true) (omega arith) s
+    (reads_held G found s.piece c.args.self.now h c.read_key_set.new.keys s.means)
+
+pub returns-then-is_empty-2 : goal.returns-then-is_empty-2
+returns-then-is_empty-2 g c found h =
+    let G = g.Op.Operation.grammar in
+    let s = c.in_ok-read_key_set-2.ensures in
+    member_read (key_set key) c.read_key_set-then-is_empty-2.new.keys (HoldsRequest G) 121 2 found c.args.name.now (codes "writes") c.args.reader.now c.read_key_set-then-is_empty-2.new.reader _ (c.is_same-5.ensures c.if-is_same-5.true) (omega arith) s
+    (writes_held G found s.piece c.args.self.now h c.read_key_set-then-is_empty-2.new.keys s.means)
+
+pub returns-then-is_same-6 : goal.returns-then-is_same-6
+returns-then-is_same-6 g c found h =
+    let G = g.Op.Operation.grammar in
+    let s = c.in_ok-self-3.ensures in
+    member_read (below (2 ^ 8)) c.in_ok-self-3.field-0 (HoldsRequest G) 121 0 found c.args.name.now (codes "attempt") c.args.reader.now c.u8_of.new.reader _ (c.is_same-6.ensures c.if-is_same-6.true) (omega arith) s
+    (attempt_held G found s.piece c.args.self.now h c.in_ok-self-3.field-0 s.means)

@@ -1,0 +1,5 @@
+-- The name that an operation has before the name of its request was read.
+use Rattle.calvin_types.specs.declared.place.RequestId.{RequestId}
+
+abbrev pub nameless : RequestId
+nameless = record { client = 0; number = 0 }

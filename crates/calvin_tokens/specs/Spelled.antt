@@ -1,0 +1,54 @@
+-- What the tokens of a reader spell: the data that serde_json reads from them, and what that data spells in a script.
+--     Reads deep ts d rest      the tokens are those of d, which nests at most `deep` levels, and then the rest
+--     ReadsItems, ReadsMembers      the same of what stands in an array, and in an object of which members were found before
+--     Spells f deep ts x rest      the tokens are those of data that spells x, and then the rest
+--     SpellsEach f deep ts xs rest      the same of what stands in an array
+--     SpellsOneMore f deep ts before after rest      the same of one thing, which was put behind a list
+--     key_or_end name      the name of a member, or the brace that closes its object
+--     MemberRead holds deep found name ts x rest      a member was read, and what was gathered is x
+--     ObjectRead holds deep ts x rest      an object was read, and what was gathered of its members is x
+use Rattle.std.specs.Prelude.{◌≡◌, ◌≤◌, ℕ, List, [], ◌∷◌, ◌++◌, length, Option, Some, None}
+use Rattle.json.specs.Token.{Token}
+use Rattle.json.specs.Json as json
+use Rattle.serde_json.specs.Data.{Data, object, Items, Members, put}
+use Rattle.serde_json.specs.Read.{of_json, of_items, of_members, converted}
+use Rattle.calvin_script.specs.Spelling.{each}
+
+pub record Reads (deep : ℕ) (ts : List Token) (d : Data) (rest : List Token) : Type 0 where
+  pub at : (depth : ℕ) → deep ≤ depth → converted of_json (json.value depth ts) ≡ Some (d, rest)
+
+pub record ReadsItems (deep : ℕ) (ts : List Token) (ds : Items) (rest : List Token) : Type 0 where
+  pub at : (depth n : ℕ) → deep ≤ depth → length ts ≤ n → converted of_items (json.items (json.value depth) n ts) ≡ Some (ds, rest)
+
+pub record ReadsMembers (deep : ℕ) (ts : List Token) (found ms : Members) (rest : List Token) : Type 0 where
+  pub at : (depth n : ℕ) → deep ≤ depth → length ts ≤ n → converted (λ l. of_members l found) (json.members (json.value depth) n ts) ≡ Some (ms, rest)
+
+pub record Spells {A : Type 0} (f : Data → Option A) (deep : ℕ) (ts : List Token) (x : A) (rest : List Token) : Type 0 where
+  pub piece : Data
+  pub reads : Reads deep ts piece rest
+  pub means : f piece ≡ Some x
+
+pub record SpellsEach {A : Type 0} (f : Data → Option A) (deep : ℕ) (ts : List Token) (xs : List A) (rest : List Token) : Type 0 where
+  pub pieces : Items
+  pub reads : ReadsItems deep ts pieces rest
+  pub means : each f pieces ≡ Some xs
+
+pub record SpellsOneMore {A : Type 0} (f : Data → Option A) (deep : ℕ) (ts : List Token) (before after : List A) (rest : List Token) : Type 0 where
+  pub one : A
+  pub spells : Spells f deep ts one rest
+  pub more : after ≡ before ++ one ∷ []
+
+abbrev pub key_or_end : Option (List ℕ) → Token
+key_or_end None = Token.end_object
+key_or_end (Some name) = Token.key name
+
+-- the member of this name joined those that were found, and what was gathered of all is x
+pub record MemberRead {A : Type 0} (holds : Members → A → Type 0) (deep : ℕ) (found : Members) (name : List ℕ) (ts : List Token) (x : A) (rest : List Token) : Type 0 where
+  pub piece : Data
+  pub reads : Reads deep ts piece rest
+  pub held : holds (put name piece found) x
+
+pub record ObjectRead {A : Type 0} (holds : Members → A → Type 0) (deep : ℕ) (ts : List Token) (x : A) (rest : List Token) : Type 0 where
+  pub members : Members
+  pub reads : Reads deep ts (object members) rest
+  pub held : holds members x

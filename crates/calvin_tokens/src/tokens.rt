@@ -1,0 +1,138 @@
+//! Tokens that stand where they usually do. Where others stand there is no answer, and any tokens may be left.
+ghost use Rattle.std.specs.Prelude.{◌≡◌, ◌∷◌, ◌^◌, ◌≤◌, option_map, IfSome, OnSome, IsTrue, IsFalse};
+ghost use Rattle.json.specs.Token as token;
+ghost use Rattle.serde_json.specs.Data.{unsigned, number};
+ghost use Rattle.serde_json.specs.Read.{number_of};
+ghost use Rattle.calvin_script.specs.Spelling.{below, between};
+ghost use Rattle.calvin_tokens.specs.Spelled.{Reads, Spells, key_or_end};
+
+use fast_float::Numeral;
+use json::{Reader, Token};
+
+/// The number that a text writes in digits alone, below 2^64.
+#[tactic(auto, unfolding(serde_json::specs::Read::number_of))]
+fn digits_of(text: &str) -> Option<u64>
+    ensures { IfSome result (λ n. number_of text.now ≡ Some (unsigned n)) }
+{
+    let bytes = text.as_bytes();
+    if bytes.is_empty() || bytes[0] == b'-' {
+        return None;
+    }
+    Numeral::scan(bytes).to_u64()
+}
+
+/// A whole number below 2^64, written in digits alone, where it is next.
+#[tactic(auto, using(crate::proofs::Steps::number_reads))]
+pub fn number(reader: &mut Reader<'_>) -> Option<u64>
+    ensures { IfSome result (λ n. Reads 0 reader.old (number (unsigned n)) reader.new) }
+{
+    let Token::Number(text) = reader.next()? else {
+        return None;
+    };
+    let n = digits_of(text)?;
+    Some(n)
+}
+
+/// A whole number below 2^64.
+#[tactic(auto, using(crate::proofs::Steps::below_spelled))]
+pub(crate) fn u64_of(reader: &mut Reader<'_>) -> Option<u64>
+    ensures { IfSome result (λ n. Spells (below (2 ^ 64)) 0 reader.old n reader.new) }
+{
+    let n = number(reader)?;
+    Some(n)
+}
+
+/// A whole number below 2^32.
+#[tactic(auto, using(crate::proofs::Steps::below_spelled))]
+pub(crate) fn u32_of(reader: &mut Reader<'_>) -> Option<u32>
+    ensures { IfSome result (λ n. Spells (below (2 ^ 32)) 0 reader.old n reader.new) }
+{
+    let n = number(reader)?;
+    u32::try_from(n).ok()
+}
+
+/// A whole number below 256.
+#[tactic(auto, using(crate::proofs::Steps::below_spelled))]
+pub(crate) fn u8_of(reader: &mut Reader<'_>) -> Option<u8>
+    ensures { IfSome result (λ n. Spells (below (2 ^ 8)) 0 reader.old n reader.new) }
+{
+    let n = number(reader)?;
+    u8::try_from(n).ok()
+}
+
+/// A whole number from the least to the most.
+#[tactic(auto, using(crate::proofs::Steps::between_spelled))]
+pub(crate) fn between(least: u8, most: u8, reader: &mut Reader<'_>) -> Option<u8>
+    ensures { IfSome result (λ n. Spells (between least most) 0 reader.old n reader.new) }
+{
+    let n = number(reader)?;
+    if least as u64 <= n && n <= most as u64 {
+        Some(n as u8)
+    } else {
+        None
+    }
+}
+
+/// Takes the bracket that opens an array, where it is next.
+pub fn opens_array(reader: &mut Reader<'_>) -> Option<()>
+    ensures { OnSome result (reader.old ≡ token.begin_array ∷ reader.new) }
+{
+    match reader.next()? {
+        Token::BeginArray => Some(()),
+        _ => None,
+    }
+}
+
+/// Takes the brace that opens an object, where it is next.
+pub(crate) fn opens_object(reader: &mut Reader<'_>) -> Option<()>
+    ensures { OnSome result (reader.old ≡ token.begin_object ∷ reader.new) }
+{
+    match reader.next()? {
+        Token::BeginObject => Some(()),
+        _ => None,
+    }
+}
+
+/// Whether an array ends here; then its bracket is taken.
+#[tactic(auto, using(json::proofs::Grammar::closed_array))]
+pub(crate) fn ends_array(reader: &mut Reader<'_>) -> bool
+    ensures ended { IsTrue result → reader.old ≡ token.end_array ∷ reader.new }
+    ensures kept { IsFalse result → reader.new ≡ reader.old }
+{
+    reader.take_end_array()
+}
+
+/// Takes the bracket that closes an array, where it is next.
+pub fn closes_array(reader: &mut Reader<'_>) -> Option<()>
+    ensures { OnSome result (reader.old ≡ token.end_array ∷ reader.new) }
+{
+    if ends_array(reader) { Some(()) } else { None }
+}
+
+/// Whether two texts are one.
+pub fn is_same(text: &str, other: &str) -> bool
+    ensures { IsTrue result → text.now ≡ other.now }
+{
+    text == other
+}
+
+/// A string, where it is next.
+pub fn string_at<'a>(reader: &mut Reader<'a>) -> Option<&'a str>
+    ensures { IfSome result (λ text. reader.old ≡ token.string text.now ∷ reader.new) }
+{
+    match reader.next()? {
+        Token::String(text) => Some(text),
+        _ => None,
+    }
+}
+
+/// The name of a member, or none at the brace that closes its object.
+pub(crate) fn key_at<'a>(reader: &mut Reader<'a>) -> Option<Option<&'a str>>
+    ensures { IfSome result (λ k. reader.old ≡ key_or_end (option_map (λ name. name.now) k) ∷ reader.new) }
+{
+    match reader.next()? {
+        Token::Key(name) => Some(Some(name)),
+        Token::EndObject => Some(None),
+        _ => None,
+    }
+}
