@@ -4,10 +4,10 @@ use Rattle.json.specs.Token.{Token}
 use Rattle.serde_json.specs.Data.{unsigned, number, string, array, Items, no_items, item}
 use Rattle.calvin_types.specs.declared.key.Key.{Key}
 use Rattle.calvin_app.specs.Kv.{key_of}
-use Rattle.calvin_app.specs.declared.kv.KvRequest.TheVariants.{Put, Get, Add}
+use Rattle.calvin_app.specs.declared.kv.KvRequest.TheVariants.{Put, Get, Add, Move, Follow}
 use Rattle.calvin_script.specs.Spelling.{below}
 use Rattle.calvin_script.specs.KeyLists.{key, key_set}
-use Rattle.calvin_script.specs.KvOperations.{row_key, two_numbers, put, get_of, add, kv_operation}
+use Rattle.calvin_script.specs.KvOperations.{row_key, one_number, two_numbers, three_numbers, put, get_of, add, move_of, follow_of, kv_operation}
 use Rattle.calvin_tokens.specs.Spelled.{Reads, ReadsItems, Spells}
 use Rattle.calvin_tokens.proofs.Steps.{string_reads, items_end, items_more, array_reads, deeper}
 
@@ -31,6 +31,15 @@ pub two_read : (m n : ℕ) (ts mid last rest : List Token) → Reads 0 ts (numbe
 two_read m n ts mid last rest a b closed =
     items_more 0 ts mid rest (number (unsigned m)) (item (number (unsigned n)) no_items) a
     (items_more 0 mid last rest (number (unsigned n)) no_items b (rw closed (items_end 0 rest)))
+
+-- the one number
+pub one_read : (m : ℕ) (ts last rest : List Token) → Reads 0 ts (number (unsigned m)) last → last ≡ Token.end_array ∷ rest → ReadsItems 0 ts (item (number (unsigned m)) no_items) rest
+one_read m ts last rest a closed = items_more 0 ts last rest (number (unsigned m)) no_items a (rw closed (items_end 0 rest))
+
+-- the three numbers
+pub three_read : (l m n : ℕ) (ts t1 t2 last rest : List Token) → Reads 0 ts (number (unsigned l)) t1 → Reads 0 t1 (number (unsigned m)) t2 → Reads 0 t2 (number (unsigned n)) last → last ≡ Token.end_array ∷ rest
+    → ReadsItems 0 ts (item (number (unsigned l)) (item (number (unsigned m)) (item (number (unsigned n)) no_items))) rest
+three_read l m n ts t1 t2 last rest a b c closed = items_more 0 ts t1 rest (number (unsigned l)) (item (number (unsigned m)) (item (number (unsigned n)) no_items)) a (two_read m n t1 t2 last rest b c closed)
 
 pub named_reads : (deep : ℕ) (name : List ℕ) (ts t1 t2 rest : List Token) (ds : Items) → ts ≡ Token.begin_array ∷ t1 → t1 ≡ Token.string name ∷ t2 → ReadsItems deep t2 ds rest
     → ReadsItems deep t1 (item (string name) ds) rest
@@ -62,4 +71,22 @@ get_spelled ks ts t1 t2 t3 rest opened is s closed = record {
   reads = rw opened (deeper 3 121 _ rest _ (omega arith) (array_reads 2 t1 rest _ (named_reads 2 (codes "get") ts t1 t2 rest _ opened is
       (items_more 2 t2 t3 rest s.piece no_items s.reads (rw closed (items_end 2 rest))))));
   means = rw s.means refl;
+}
+
+pub move_spelled : (l m n : ℕ) (ts t1 t2 rest : List Token) → ts ≡ Token.begin_array ∷ t1 → l < 2 ^ 64 → m < 2 ^ 64 → n < 2 ^ 64
+    → ReadsItems 0 t2 (item (number (unsigned l)) (item (number (unsigned m)) (item (number (unsigned n)) no_items))) rest → t1 ≡ Token.string (codes "move") ∷ t2 → Spells kv_operation 121 ts (Move l m n) rest
+unfolding kv_operation move_of three_numbers
+move_spelled l m n ts t1 t2 rest opened lb mb nb three is = record {
+  piece = array (item (string (codes "move")) (item (number (unsigned l)) (item (number (unsigned m)) (item (number (unsigned n)) no_items))));
+  reads = rw opened (deeper 1 121 _ rest _ (omega arith) (array_reads 0 t1 rest _ (named_reads 0 (codes "move") ts t1 t2 rest _ opened is three)));
+  means = rw (lt-ltb _ _ lb, lt-ltb _ _ mb, lt-ltb _ _ nb) refl;
+}
+
+pub follow_spelled : (n : ℕ) (ts t1 t2 rest : List Token) → ts ≡ Token.begin_array ∷ t1 → n < 2 ^ 64
+    → ReadsItems 0 t2 (item (number (unsigned n)) no_items) rest → t1 ≡ Token.string (codes "follow") ∷ t2 → Spells kv_operation 121 ts (Follow n) rest
+unfolding kv_operation follow_of one_number
+follow_spelled n ts t1 t2 rest opened nb one is = record {
+  piece = array (item (string (codes "follow")) (item (number (unsigned n)) no_items));
+  reads = rw opened (deeper 1 121 _ rest _ (omega arith) (array_reads 0 t1 rest _ (named_reads 0 (codes "follow") ts t1 t2 rest _ opened is one)));
+  means = rw (lt-ltb _ _ nb) refl;
 }

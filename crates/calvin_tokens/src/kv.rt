@@ -19,6 +19,17 @@ impl KeyTokens for RowNumber {
     }
 }
 
+/// The number that follows the name of an operation.
+#[tactic(auto, using(crate::proofs::Operations::one_read))]
+fn one_number(reader: &mut Reader<'_>) -> Option<u64>
+    ensures read { IfSome result (λ n. ReadsItems 0 reader.old (item (number (unsigned n)) no_items) reader.new) }
+    ensures below { IfSome result (λ n. n < 2 ^ 64) }
+{
+    let only = number(reader)?;
+    closes_array(reader)?;
+    Some(only)
+}
+
 /// The two numbers that follow the name of an operation.
 #[tactic(auto, using(crate::proofs::Operations::two_read))]
 fn two_numbers(reader: &mut Reader<'_>) -> Option<(u64, u64)>
@@ -30,6 +41,20 @@ fn two_numbers(reader: &mut Reader<'_>) -> Option<(u64, u64)>
     let second = number(reader)?;
     closes_array(reader)?;
     Some((first, second))
+}
+
+/// The three numbers that follow the name of an operation.
+#[tactic(auto, using(crate::proofs::Operations::three_read))]
+fn three_numbers(reader: &mut Reader<'_>) -> Option<(u64, u64, u64)>
+    ensures read { IfSome result (λ n. ReadsItems 0 reader.old
+        (item (number (unsigned n.0)) (item (number (unsigned n.1)) (item (number (unsigned n.2)) no_items))) reader.new) }
+    ensures below { IfSome result (λ n. (n.0 < 2 ^ 64) × (n.1 < 2 ^ 64) × (n.2 < 2 ^ 64)) }
+{
+    let first = number(reader)?;
+    let second = number(reader)?;
+    let third = number(reader)?;
+    closes_array(reader)?;
+    Some((first, second, third))
 }
 
 impl OperationTokens for KvRequest {
@@ -49,6 +74,12 @@ impl OperationTokens for KvRequest {
         } else if is_same(name, "add") {
             let (id, amount) = two_numbers(reader)?;
             *self = KvRequest::Add(id, amount);
+        } else if is_same(name, "move") {
+            let (from, to, amount) = three_numbers(reader)?;
+            *self = KvRequest::Move(from, to, amount);
+        } else if is_same(name, "follow") {
+            let followed = one_number(reader)?;
+            *self = KvRequest::Follow(followed);
         } else {
             return None;
         }
