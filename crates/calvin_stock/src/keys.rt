@@ -1,0 +1,100 @@
+//! The keys of customers, items and orders, the rows that a view has under them, and the keys that requests need.
+ghost use Rattle.std.specs.Prelude.{◌≡◌};
+ghost use Rattle.calvin_stock.specs.StockRows.{customer_key, item_key, order_key, customer_at, item_at, order_at};
+ghost use Rattle.calvin_stock.specs.Stock.{order_keys, settle_keys, last_order};
+
+use crate::order::Order;
+use crate::rows::{Customer, Item, Placed, StockRow};
+use calvin_app::View;
+use calvin_types::{Key, KeySet};
+
+/// The key of the customer with this number, in table 1.
+pub(crate) fn customer_key(customer: u64) -> Key
+    ensures { result ≡ customer_key customer }
+{
+    Key {
+        table: 1,
+        id: customer,
+    }
+}
+
+/// The key of the item with this number, in table 2.
+pub(crate) fn item_key(item: u64) -> Key
+    ensures { result ≡ item_key item }
+{
+    Key { table: 2, id: item }
+}
+
+/// The key of the order with this number, in table 3.
+pub(crate) fn order_key(order: u64) -> Key
+    ensures { result ≡ order_key order }
+{
+    Key {
+        table: 3,
+        id: order,
+    }
+}
+
+/// The customer with this number, if a view has it.
+pub(crate) fn customer_in(view: &View<StockRow>, customer: u64) -> Option<Customer>
+    ensures { result ≡ customer_at view.now customer }
+{
+    match view.get(&customer_key(customer)) {
+        Some(StockRow::Customer(found)) => Some(found),
+        _ => None,
+    }
+}
+
+/// The item with this number, if a view has it.
+pub(crate) fn item_in(view: &View<StockRow>, item: u64) -> Option<Item>
+    ensures { result ≡ item_at view.now item }
+{
+    match view.get(&item_key(item)) {
+        Some(StockRow::Item(found)) => Some(found),
+        _ => None,
+    }
+}
+
+/// The order with this number, if a view has it.
+pub(crate) fn order_in(view: &View<StockRow>, order: u64) -> Option<Placed>
+    ensures { result ≡ order_at view.now order }
+{
+    match view.get(&order_key(order)) {
+        Some(StockRow::Order(found)) => Some(found),
+        _ => None,
+    }
+}
+
+/// The number of a customer's last order, if there is one.
+pub(crate) fn last_order(customer: Option<Customer>) -> Option<u64>
+    ensures { result ≡ last_order customer }
+{
+    match customer {
+        Some(found) => found.last_order,
+        None => None,
+    }
+}
+
+/// The keys of an order: its items, itself and its customer.
+pub(crate) fn order_keys(order: &Order) -> KeySet
+    ensures { result ≡ order_keys order.now }
+{
+    let mut keys = KeySet::new();
+    for i in 0..order.lines.len() {
+        keys.grow(item_key(order.lines.at(i).item));
+    }
+    keys.grow(order_key(order.number));
+    keys.grow(customer_key(order.customer));
+    keys
+}
+
+/// The keys of a settlement: the customer, and the last order where there is one.
+pub(crate) fn settle_keys(customer: u64, last: Option<u64>) -> KeySet
+    ensures { result ≡ settle_keys customer last }
+{
+    let mut keys = KeySet::of(customer_key(customer));
+    if let Some(order) = last {
+        keys.grow(order_key(order));
+    }
+    keys
+}

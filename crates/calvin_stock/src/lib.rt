@@ -1,0 +1,24 @@
+//! The application Stock: customers pay in, order items, and settle their orders.
+#![tactic(auto)]
+
+mod customers;
+mod items;
+mod keys;
+mod limits;
+mod order;
+mod outcome;
+mod placing;
+mod reply;
+mod request;
+mod rows;
+mod settling;
+mod stock;
+mod totals;
+
+pub use limits::{MOST_CENTS, MOST_LINES, MOST_PIECES};
+pub use order::{Line, Order};
+pub use reply::StockReply;
+pub use request::StockRequest;
+pub use rows::{Customer, Item, Placed, StockRow};
+pub use stock::Stock;
+pub use totals::run_on_no_rows;
