@@ -8,4 +8,8 @@ mod forward;
 #[cfg(test)]
 mod kv;
 #[cfg(test)]
+mod last_first;
+#[cfg(test)]
+mod locks;
+#[cfg(test)]
 mod rows_seen;
