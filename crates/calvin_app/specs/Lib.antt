@@ -1,7 +1,6 @@
 pub mod Entries
 pub mod EntryLaws
 pub mod EntryPlaces
-pub mod Follow
 pub mod Kv
 pub mod KvExact
 pub mod KvLaws

@@ -21,6 +21,3 @@ pub use serial::Serial;
 pub use table::Table;
 pub use view::View;
 pub use writes::Writes;
-
-#[cfg(test)]
-mod tests;

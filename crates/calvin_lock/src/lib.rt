@@ -8,6 +8,3 @@ mod locks;
 
 pub use list_locks::ListLocks;
 pub use locks::{Locks, oldest_is_ready, ready_stays};
-
-#[cfg(test)]
-mod tests;

@@ -91,7 +91,7 @@ impl Locks for ListLocks {
 }
 
 /// Whether a place is greater than another, where there is one.
-pub(crate) fn is_past(after: Option<Place>, place: Place) -> bool
+fn is_past(after: Option<Place>, place: Place) -> bool
     ensures { IsTrue result ↔ IsPast after place }
 {
     match after {
@@ -101,7 +101,7 @@ pub(crate) fn is_past(after: Option<Place>, place: Place) -> bool
 }
 
 /// Whether no earlier request of a list conflicts with the one that has `i` before it.
-pub(crate) fn is_free(requests: &[(Place, Sets)], i: usize) -> bool
+fn is_free(requests: &[(Place, Sets)], i: usize) -> bool
     requires { i < length requests.now }
     ensures { IsTrue result ↔ IsFree requests.now i }
 {
@@ -115,7 +115,7 @@ pub(crate) fn is_free(requests: &[(Place, Sets)], i: usize) -> bool
 }
 
 /// How many requests of a list are before that of a place.
-pub(crate) fn position_of(requests: &[(Place, Sets)], place: Place) -> Option<usize>
+fn position_of(requests: &[(Place, Sets)], place: Place) -> Option<usize>
     ensures { MatchOption result (find place_cmp place requests.now ≡ None) (IsAt requests.now place) }
 {
     for i in 0..requests.len() {
@@ -128,7 +128,7 @@ pub(crate) fn position_of(requests: &[(Place, Sets)], place: Place) -> Option<us
 }
 
 /// How many requests of a list in order are before that of a place, if it is ready.
-pub(crate) fn ready_position(requests: &[(Place, Sets)], place: Place) -> Option<usize>
+fn ready_position(requests: &[(Place, Sets)], place: Place) -> Option<usize>
     requires { T (is_sorted place_cmp requests.now) }
     ensures ready { IsSome result ↔ IsReady (from_entries requests.now) place }
     ensures at { IfSome result (IsAt requests.now place) }

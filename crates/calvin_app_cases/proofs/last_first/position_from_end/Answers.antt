@@ -3,8 +3,8 @@ use Rattle.std.proofs.lemmas.Option.{same_Some, slice_get_read}
 use Rattle.calvin_types.specs.declared.key_set.Sets.{Sets}
 use Rattle.calvin_types.specs.declared.place.Place.{Place}
 use Rattle.calvin_lock.proofs.Requests.{unfound_anywhere}
-use Rattle.calvin_lock.proofs.FromEnd.{from_one_before}
-use Rattle.calvin_lock.proofs.tests.last_first.position_from_end.Goals as goal
+use Rattle.calvin_app_cases.proofs.FromEnd.{from_one_before}
+use Rattle.calvin_app_cases.proofs.last_first.position_from_end.Goals as goal
 
 pub returns-then-eq : goal.returns-then-eq
 returns-then-eq c =

@@ -2,7 +2,7 @@ use Rattle.std.proofs.Common.{◌≡◌, None, is_some, sym, ap, ◌∙◌, rule
 use Rattle.std.proofs.lemmas.Bool.{false≢true}
 use Rattle.std.proofs.lemmas.Option.{slice_get_within}
 use Rattle.calvin_lock.proofs.Requests.{ready_at, free_at, unfound_unready}
-use Rattle.calvin_lock.proofs.tests.last_first.ready_from_end.Goals as goal
+use Rattle.calvin_app_cases.proofs.last_first.ready_from_end.Goals as goal
 
 pub returns-in_err-i-clause-ready : goal.returns-in_err-i-clause-ready
 returns-in_err-i-clause-ready c =

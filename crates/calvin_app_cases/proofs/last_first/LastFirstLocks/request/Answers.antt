@@ -4,7 +4,7 @@ use Rattle.calvin_types.specs.declared.key_set.Sets.{Sets}
 use Rattle.calvin_types.specs.Places.{place_cmp}
 use Rattle.calvin_lock.specs.ListOrder.{IsInOrder}
 use Rattle.calvin_lock.proofs.Requests.{in_order_push, pushed}
-use Rattle.calvin_lock.proofs.tests.last_first.LastFirstLocks.request.Goals as goal
+use Rattle.calvin_app_cases.proofs.last_first.LastFirstLocks.request.Goals as goal
 
 pub invariant_of-self-else-is_empty : goal.invariant_of-self-else-is_empty
 invariant_of-self-else-is_empty c = subst (λ es. IsInOrder es (Some c.args.place)) (sym c.in_ok-push.ensures.items) (in_order_push c.self.inside.requests.items c.self.inside.last c.args.place _ c.self.invariant (c.is_past.ensures.0 c.if-not-is_past.false))

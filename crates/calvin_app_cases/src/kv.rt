@@ -1,22 +1,21 @@
-//! Each public call once, and Kv through callers that know it as an application alone.
+//! `Kv` through callers that know it as an application alone, what it says of itself, and the worked case
+//! `follow_in_serial`.
 ghost use Rattle.std.specs.Prelude.{◌≡◌};
 
-mod follow;
-
-use crate::{Answer, App, Job, Kv, KvReply, KvRequest, Serial, Table, View, Writes};
-use calvin_types::{Fault, Few, Key, KeySet, Place, RequestId, Sets, Txn};
+use calvin_app::{Answer, App, Kv, KvReply, KvRequest, Serial, Table, View, Writes};
+use calvin_types::{Fault, Few, Key, KeySet, RequestId, Sets, Txn};
 use std::alloc::Global;
 use std::test::Fail;
 
 /// A key of table 0.
-fn key(id: u64) -> Key
+pub(crate) fn key(id: u64) -> Key
     ensures { result ≡ record { table = 0; id = id } }
 {
     Key { table: 0, id }
 }
 
 /// The set of keys of table 0 with these numbers.
-fn set(ids: &[u64]) -> Result<KeySet, Fault> {
+pub(crate) fn set(ids: &[u64]) -> Result<KeySet, Fault> {
     let mut keys = KeySet::new();
     for &id in ids {
         keys.insert(key(id))?;
@@ -25,7 +24,7 @@ fn set(ids: &[u64]) -> Result<KeySet, Fault> {
 }
 
 /// The first attempt at a request with these sets.
-fn txn(args: KvRequest, reads: KeySet, writes: KeySet) -> Txn<KvRequest> {
+pub(crate) fn txn<Args: Copy>(args: Args, reads: KeySet, writes: KeySet) -> Txn<Args> {
     Txn {
         id: RequestId {
             client: 7,
@@ -37,13 +36,14 @@ fn txn(args: KvRequest, reads: KeySet, writes: KeySet) -> Txn<KvRequest> {
     }
 }
 
-/// A request with the sets that it needs: a put writes its key, a get reads its keys, an add does both.
-fn declared(args: KvRequest) -> Txn<KvRequest> {
-    match args {
-        KvRequest::Put(id, _) => txn(args, KeySet::new(), KeySet::of(key(id))),
-        KvRequest::Get(keys) => txn(args, keys, KeySet::new()),
-        KvRequest::Add(id, _) => txn(args, KeySet::of(key(id)), KeySet::of(key(id))),
-    }
+/// A request with the sets that it needs where no row is known.
+pub(crate) fn declared(args: KvRequest) -> Txn<KvRequest> {
+    let mut sets = Sets {
+        reads: KeySet::new(),
+        writes: KeySet::new(),
+    };
+    args.add_first_needs(&mut sets);
+    txn(args, sets.reads, sets.writes)
 }
 
 /// Requests, each with the sets that it needs.
@@ -70,7 +70,7 @@ fn applied<A: App + Drop>(
 }
 
 /// What an application says of itself and of a request on no rows.
-fn described<A: App>(app: &A, args: &A::Args) -> (usize, u8, bool, Sets) {
+pub(crate) fn described<A: App>(app: &A, args: &A::Args) -> (usize, u8, bool, Sets) {
     let view = View::new();
     (
         app.most_keys(),
@@ -174,6 +174,103 @@ fn gets(rt: HostRuntime) -> Result<(), Fail> {
     Ok(())
 }
 
+/// What a move from 3 is told where the rows of 3 and of the key that it moves to are these, and their rows after it.
+fn moved(
+    alloc: Global,
+    to: u64,
+    amount: u64,
+    rows: [Option<u64>; 2],
+) -> Result<(Answer<KvReply>, [Option<u64>; 2]), Fault> {
+    let mut serial = Serial::new(alloc, Kv);
+    for (id, row) in [3, to].into_iter().zip(rows) {
+        if let Some(row) = row {
+            let _done = serial.apply(&declared(KvRequest::Put(id, row)))?;
+        }
+    }
+    let answer = serial.apply(&declared(KvRequest::Move(3, to, amount)))?;
+    let rows = serial.rows();
+    Ok((answer, [rows.get(&key(3)), rows.get(&key(to))]))
+}
+
+#[test]
+fn moves(rt: HostRuntime) -> Result<(), Fail> {
+    const MOST: u64 = u64::MAX;
+    // The key that is moved to, how much, the reply, and the rows of 3 and of that key before and after it.
+    for (to, amount, reply, before, after) in [
+        (
+            4,
+            4,
+            KvReply::Done,
+            [Some(10), Some(7)],
+            [Some(6), Some(11)],
+        ),
+        (4, 10, KvReply::Done, [Some(10), None], [Some(0), Some(10)]),
+        (4, 11, KvReply::Short, [Some(10), None], [Some(10), None]),
+        (4, 1, KvReply::Short, [None, Some(7)], [None, Some(7)]),
+        // Whether there is enough is looked at before whether the keys are the same, or the sum too great.
+        (3, 11, KvReply::Short, [Some(10); 2], [Some(10); 2]),
+        (
+            4,
+            11,
+            KvReply::Short,
+            [Some(10), Some(MOST)],
+            [Some(10), Some(MOST)],
+        ),
+        // Where the keys are the same nothing is written.
+        (3, 10, KvReply::Done, [Some(10); 2], [Some(10); 2]),
+        (3, MOST, KvReply::Done, [Some(MOST); 2], [Some(MOST); 2]),
+        (3, 0, KvReply::Done, [None; 2], [None; 2]),
+        // The greatest number is reached and not passed.
+        (
+            4,
+            10,
+            KvReply::Done,
+            [Some(10), Some(MOST - 10)],
+            [Some(0), Some(MOST)],
+        ),
+        (
+            4,
+            10,
+            KvReply::Limit,
+            [Some(10), Some(MOST - 9)],
+            [Some(10), Some(MOST - 9)],
+        ),
+        // Where nothing is moved between keys without rows, both rows are written.
+        (4, 0, KvReply::Done, [None; 2], [Some(0); 2]),
+    ] {
+        let (answer, rows) = moved(rt.alloc(), to, amount, before)?;
+        assert!(rt;
+            is_reply(&answer, reply),
+            "{amount} to {to} with {before:?}"
+        );
+        assert_eq!(rt; rows, after, "{amount} to {to} with {before:?}");
+    }
+    Ok(())
+}
+
+#[test]
+fn follow_in_serial(rt: HostRuntime) -> Result<(), Fail> {
+    let alloc = rt.alloc();
+    let asked = [
+        KvRequest::Put(3, 3),
+        KvRequest::Follow(3),
+        KvRequest::Follow(9),
+        KvRequest::Put(3, 4),
+        KvRequest::Follow(3),
+    ];
+    let (_rows, answers) = applied(alloc, Kv, &all_declared(alloc, &asked)?)?;
+    let want = [
+        Answer::Reply(KvReply::Done),
+        Answer::Reply(KvReply::Found(Some(3))),
+        Answer::Reply(KvReply::Found(None)),
+        Answer::Reply(KvReply::Done),
+        // The row of 3 names 4 now, which isn't declared.
+        Answer::Changed,
+    ];
+    assert_eq!(rt; answers.as_slice(), want.as_slice());
+    Ok(())
+}
+
 /// Whether a request with these sets is answered Changed after a put of 10 under 3, and the rows of 3, 4 and 5 then.
 fn after_put(
     alloc: Global,
@@ -229,6 +326,15 @@ fn stale_sets(rt: HostRuntime) -> Result<(), Fail> {
         (get, &[3], &[], true, 10),
         (get, &[3, 4, 5], &[], true, 10),
         (get, &[3, 4], &[3], true, 10),
+        (KvRequest::Move(3, 3, 1), &[3], &[3], false, 10),
+        (KvRequest::Move(3, 4, 1), &[3], &[3, 4], true, 10),
+        (KvRequest::Move(3, 4, 1), &[3, 4], &[3], true, 10),
+        (KvRequest::Move(3, 4, 1), &[3, 4, 5], &[3, 4], true, 10),
+        // The row of 3 names 10.
+        (KvRequest::Follow(3), &[3, 10], &[], false, 10),
+        (KvRequest::Follow(3), &[3], &[], true, 10),
+        (KvRequest::Follow(3), &[3, 4], &[], true, 10),
+        (KvRequest::Follow(3), &[3, 10], &[3], true, 10),
     ] {
         let after = after_put(rt.alloc(), args, reads, writes)?;
         assert!(rt;
@@ -243,134 +349,22 @@ fn stale_sets(rt: HostRuntime) -> Result<(), Fail> {
 fn what_kv_says_of_itself(rt: HostRuntime) -> Result<(), Fail> {
     let mut mixed = set(&[8, 2])?;
     mixed.insert(Key { table: 1, id: 5 })?;
-    for (args, reads, writes) in [
-        (KvRequest::Put(3, 1), [].as_slice(), [3].as_slice()),
-        (KvRequest::Add(3, 1), &[3], &[3]),
-        (KvRequest::Get(mixed), &[2, 8], &[]),
+    for (args, dependent, reads, writes) in [
+        (KvRequest::Put(3, 1), false, [].as_slice(), [3].as_slice()),
+        (KvRequest::Add(3, 1), false, &[3], &[3]),
+        (KvRequest::Get(mixed), false, &[2, 8], &[]),
+        (KvRequest::Move(8, 2, 1), false, &[2, 8], &[2, 8]),
+        (KvRequest::Move(3, 3, 1), false, &[3], &[3]),
+        (KvRequest::Follow(3), true, &[3], &[]),
     ] {
         let sets = Sets {
             reads: set(reads)?,
             writes: set(writes)?,
         };
-        assert!(rt; described(&Kv, &args) == (16, 0, false, sets), "{args:?}");
-    }
-    Ok(())
-}
-
-#[test]
-fn tables(rt: HostRuntime) -> Result<(), Fail> {
-    let other = Key { table: 1, id: 5 };
-    let mut table = Table::new(rt.alloc());
-    let mut writes = Writes::of(key(5), 50);
-    writes.put(key(1), 10)?;
-    writes.put(other, 15)?;
-    table.overwrite(&writes)?;
-    let mut view = View::new();
-    table.look_up(&set(&[5, 7])?, &mut view);
-    for (key, row, seen) in [
-        (key(5), Some(50), Some(50)),
-        (key(7), None, None),
-        (key(1), Some(10), None),
-        (other, Some(15), None),
-    ] {
-        assert_eq!(rt; table.get(&key), row);
-        assert_eq!(rt; view.get(&key), seen);
-    }
-    Ok(())
-}
-
-#[test]
-fn views(rt: HostRuntime) -> Result<(), Fail> {
-    let mut table = Table::new(rt.alloc());
-    table.overwrite(&Writes::of(key(5), 4))?;
-    let mut view = View::new();
-    table.look_up(&set(&[3, 5])?, &mut view);
-    assert_eq!(rt; view.clone()?.get(&key(5)), Some(4));
-    assert_eq!(rt; view.get(&key(3)), None);
-    let none: View<u64> = View::new();
-    assert_eq!(rt; none.get(&key(5)), None);
-    view.clear();
-    assert_eq!(rt; view.get(&key(5)), None);
-    assert_eq!(rt; view.len(), 0);
-    Ok(())
-}
-
-/// A view of these rows of table 0.
-fn view_of(alloc: Global, rows: &[(u64, u64)]) -> Result<View<u64>, Fault> {
-    let mut table = Table::new(alloc);
-    let mut keys = KeySet::new();
-    for &(id, row) in rows {
-        table.overwrite(&Writes::of(key(id), row))?;
-        keys.insert(key(id))?;
-    }
-    let mut view = View::new();
-    table.look_up(&keys, &mut view);
-    Ok(view)
-}
-
-#[test]
-fn views_compared(rt: HostRuntime) -> Result<(), Fail> {
-    let alloc = rt.alloc();
-    let view = view_of(alloc, &[(9, 90), (2, 20)])?;
-    for (i, id) in [(0, 2), (1, 9)] {
-        assert!(rt; i < view.len());
-        assert!(rt; view.at(i) == (key(id), id * 10));
-    }
-    for (other, same) in [
-        ([(2, 20), (9, 90)].as_slice(), true),
-        (&[(2, 20)], false),
-        (&[(2, 20), (9, 91)], false),
-        (&[(2, 20), (8, 90)], false),
-        (&[], false),
-    ] {
-        assert!(rt; view.is_same(&view_of(alloc, other)?) == same, "{other:?}");
-    }
-    Ok(())
-}
-
-#[test]
-fn jobs_computed(rt: HostRuntime) -> Result<(), Fail> {
-    let place = Place { epoch: 4, n: 2 };
-    let view = view_of(rt.alloc(), &[(3, 10)])?;
-    let fresh = declared(KvRequest::Add(3, 5));
-    let stale = txn(KvRequest::Add(3, 5), set(&[3])?, set(&[3, 4])?);
-    for (txn, answer, written) in [
-        (fresh, Answer::Reply(KvReply::Value(15)), 1),
-        (stale, Answer::Changed, 0),
-    ] {
-        let work = Job { place, txn, view }.compute(&Kv);
-        assert!(rt; work.answer == answer);
-        assert_eq!(rt; work.writes.len(), written);
-        assert!(rt; work.job.place == place && work.job.txn == txn);
-        assert!(rt; work.job.view.is_same(&view));
-    }
-    Ok(())
-}
-
-#[test]
-fn views_from_a_place_on(rt: HostRuntime) -> Result<(), Fail> {
-    let mut table = Table::new(rt.alloc());
-    for id in [2, 5, 9] {
-        table.overwrite(&Writes::of(key(id), id * 10))?;
-    }
-    let mut view = View::new();
-    table.look_up(&set(&[2, 5, 9])?, &mut view);
-    // A place, and the numbers of the keys whose rows stand there or later.
-    for (place, left) in [
-        (0, [2, 5, 9].as_slice()),
-        (1, &[5, 9]),
-        (2, &[9]),
-        (3, &[]),
-        (4, &[]),
-    ] {
-        for id in 0..11u64 {
-            let row = if left.contains(&id) {
-                Some(id * 10)
-            } else {
-                None
-            };
-            assert_eq!(rt; view.get_from(place, &key(id)), row);
-        }
+        assert!(rt;
+            described(&Kv, &args) == (16, 0, dependent, sets),
+            "{args:?}"
+        );
     }
     Ok(())
 }
@@ -397,28 +391,6 @@ fn places_used_again(rt: HostRuntime) -> Result<(), Fail> {
     let stale = txn(KvRequest::Add(3, 1), set(&[5])?, set(&[5])?);
     serial.apply_into(&stale, &mut seen, &mut answer)?;
     assert!(rt; answer == Answer::Changed);
-    Ok(())
-}
-
-/// The writes of 0 under 15, of 1 under 14 and so on to 15 under 0.
-fn sixteen() -> Result<Writes<u64>, Fault> {
-    let mut writes = Writes::new();
-    for row in 0..16u64 {
-        writes.put(key(15 - row), row)?;
-    }
-    Ok(writes)
-}
-
-#[test]
-fn sixteen_writes(rt: HostRuntime) -> Result<(), Fail> {
-    let mut writes = sixteen()?;
-    writes.put(key(15), 90)?;
-    assert_eq!(rt; writes.put(key(16), 1), Err(Fault::TooManyKeys));
-    assert_eq!(rt; writes.len(), 16);
-    for (i, id, row) in [(0, 15, 90), (1, 14, 1), (14, 1, 14), (15, 0, 15)] {
-        assert!(rt; i < writes.len());
-        assert!(rt; writes.at(i) == (key(id), row), "write {i}");
-    }
     Ok(())
 }
 

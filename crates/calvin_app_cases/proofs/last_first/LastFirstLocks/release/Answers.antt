@@ -3,7 +3,7 @@ use Rattle.std.specs.FinMap as map
 use Rattle.calvin_types.specs.Places.{place_cmp}
 use Rattle.calvin_lock.specs.ListOrder.{IsInOrder}
 use Rattle.calvin_lock.proofs.Requests.{in_order_without, removed}
-use Rattle.calvin_lock.proofs.tests.last_first.LastFirstLocks.release.Goals as goal
+use Rattle.calvin_app_cases.proofs.last_first.LastFirstLocks.release.Goals as goal
 
 pub invariant_of-self : goal.invariant_of-self
 invariant_of-self c = subst (λ es. IsInOrder es c.self.inside.last) (sym c.remove-released.ensures.items) (in_order_without c.self.inside.requests.items c.self.inside.last c.in-Some.i c.self.invariant)

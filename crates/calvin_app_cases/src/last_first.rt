@@ -1,13 +1,14 @@
-//! Locks as one list that is searched from its end.
-ghost use Rattle.std.specs.Prelude.{◌≡◌, ◌↔◌, T, IsSome, IfSome, MatchOption};
+//! A second lock manager: locks as one list that is searched from its end.
+ghost use Rattle.std.specs.Prelude.{◌≡◌, ◌<◌, ◌↔◌, ◌++◌, T, IsTrue, IsSome, IfSome, MatchOption, length};
+ghost use Rattle.std.specs.List.{list_any};
 ghost use Rattle.std.specs.FinMap.{find, is_sorted, from_entries};
+ghost use Rattle.calvin_types.specs.Keys.{has};
 ghost use Rattle.calvin_types.specs.Places.{place_cmp};
-ghost use Rattle.calvin_lock.specs.Ready.{IsReady};
-ghost use Rattle.calvin_lock.specs.ListOrder.{IsAt};
+ghost use Rattle.calvin_lock.specs.Ready.{Conflict, IsReady, IsPast};
+ghost use Rattle.calvin_lock.specs.ListOrder.{IsFree, IsAt};
 
-use crate::Locks;
-use crate::list_locks::{is_free, is_past};
-use calvin_types::{Fault, KeySet, Place, Sets};
+use calvin_lock::Locks;
+use calvin_types::{Fault, Key, KeySet, Place, Sets};
 use std::alloc::Global;
 use std::marker::Model;
 
@@ -31,6 +32,56 @@ impl Model for LastFirst {
     ghost view = { λ l. record { requested = from_entries l.requests.items; last = l.last } };
 
     ghost invariant = { λ l. IsInOrder l.requests.items l.last };
+}
+
+/// Whether a request reads or writes a key.
+fn uses(sets: &Sets, key: Key) -> bool
+    ensures { result ≡ has (sets.now.reads ++ sets.now.writes) key }
+{
+    sets.reads.has(key) || sets.writes.has(key)
+}
+
+/// Whether a request writes a key that another reads or writes.
+fn writes_into(a: &Sets, b: &Sets) -> bool
+    ensures { result ≡ list_any (has (b.now.reads ++ b.now.writes)) a.now.writes }
+{
+    for i in 0..a.writes.len() {
+        if uses(b, a.writes.at(i)) {
+            return true;
+        }
+    }
+    false
+}
+
+/// Whether one of two requests writes a key that the other reads or writes.
+fn conflict(a: &Sets, b: &Sets) -> bool
+    ensures { IsTrue result ↔ Conflict a.now b.now }
+{
+    writes_into(a, b) || writes_into(b, a)
+}
+
+/// Whether no request before this one conflicts with it.
+fn is_free(requests: &[(Place, Sets)], i: usize) -> bool
+    requires { i < length requests.now }
+    ensures { IsTrue result ↔ IsFree requests.now i }
+{
+    let sets = &requests[i].1;
+    for j in 0..i {
+        if conflict(&requests[j].1, sets) {
+            return false;
+        }
+    }
+    true
+}
+
+/// Whether a place is past another, where there is one.
+fn is_past(after: Option<Place>, place: Place) -> bool
+    ensures { IsTrue result ↔ IsPast after place }
+{
+    match after {
+        Some(after) => after < place,
+        None => true,
+    }
 }
 
 /// How many requests are before that of a place.

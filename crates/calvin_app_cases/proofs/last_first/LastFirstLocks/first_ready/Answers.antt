@@ -3,9 +3,9 @@ use Rattle.std.proofs.lemmas.Bool.{false≢true}
 use Rattle.std.proofs.lemmas.Option.{slice_get_read}
 use Rattle.calvin_lock.specs.Ready.{IsFirstReady}
 use Rattle.calvin_lock.specs.ListOrder.{IsFree}
-use Rattle.calvin_lock.proofs.FromEnd.{first_at_end, first_here, first_passed, first_of_all}
-use Rattle.calvin_lock.proofs.tests.last_first.LastFirstLocks.first_ready.Goals as goal
-use Rattle.calvin_lock.proofs.tests.last_first.LastFirstLocks.first_ready.Goals.{else-is_past-via-then-is_past+else-is_free, else-is_past-via-else-is_past}
+use Rattle.calvin_app_cases.proofs.FromEnd.{first_at_end, first_here, first_passed, first_of_all}
+use Rattle.calvin_app_cases.proofs.last_first.LastFirstLocks.first_ready.Goals as goal
+use Rattle.calvin_app_cases.proofs.last_first.LastFirstLocks.first_ready.Goals.{else-is_past-via-then-is_past+else-is_free, else-is_past-via-else-is_past}
 
 pub loop-i-init : goal.loop-i-init
 loop-i-init c = first_at_end c.self.inside.requests.items c.self.invariant.rising c.args.after _ (omega (arith, c.len-i.ensures, c.self.inside.requests.ok.0))

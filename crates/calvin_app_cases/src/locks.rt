@@ -1,10 +1,9 @@
 //! The worked cases, each public call once, and a table of drawn calls, all for any lock manager: for `ListLocks`, and
 //! for one that searches its list from the end.
-mod last_first;
-
-use crate::{ListLocks, Locks, oldest_is_ready, ready_stays};
+use crate::kv::set;
+use crate::last_first::LastFirst;
+use calvin_lock::{ListLocks, Locks, oldest_is_ready, ready_stays};
 use calvin_types::{Fault, Key, KeySet, Place};
-use last_first::LastFirst;
 use std::alloc::Global;
 use std::process::Abort;
 use std::test::Fail;
@@ -12,15 +11,6 @@ use std::test::Fail;
 /// The place of epoch 0 with this number.
 fn place(n: u32) -> Place {
     Place { epoch: 0, n }
-}
-
-/// The keys of table 0 with these numbers.
-fn set(ids: &[u64]) -> Result<KeySet, Fault> {
-    let mut keys = KeySet::new();
-    for &id in ids {
-        keys.insert(Key { table: 0, id })?;
-    }
-    Ok(keys)
 }
 
 /// The number of a refusal, and 0 for none. Want of memory is passed on.

@@ -1,18 +1,18 @@
-//! An application whose sets depend on a row, and which has no bodies of its own for what `App` gives bodies to.
+//! A second application, whose writes depend on a row, and which has no bodies of its own for what `App` gives bodies to.
 ghost use Rattle.std.specs.Prelude.{◌≡◌, true};
 ghost use Rattle.std.proofs.Common.{lit<};
-ghost use Rattle.calvin_app.specs.Follow.{named, follow, follow_lawful};
 ghost use Rattle.calvin_app.specs.KvExact.{numbers_exact};
+ghost use Rattle.calvin_app_cases.specs.Forward.{named, forward, forward_lawful};
 
-use super::{described, key, set};
-use crate::{Answer, App, Serial, View, Writes};
-use calvin_types::{Fault, Key, KeySet, RequestId, Sets, Txn};
+use crate::kv::{described, key, set, txn};
+use calvin_app::{Answer, App, Serial, View, Writes};
+use calvin_types::{Key, KeySet, Sets};
 use std::test::Fail;
 
 /// The request `a` reads the row of the key `a`, which is the number of another key. It tells the row under that key
 /// and writes `a` there. No row counts as 0, and all keys are of table 0.
 #[derive(Drop)]
-struct Follow;
+struct Forward;
 
 /// The key that the row of the key `a` names.
 fn named(a: u64, view: &View<u64>) -> Key
@@ -21,14 +21,14 @@ fn named(a: u64, view: &View<u64>) -> Key
     key(view.get(&key(a)).unwrap_or(0))
 }
 
-impl App for Follow {
+impl App for Forward {
     type Args = u64;
 
     type Row = u64;
 
     type Reply = u64;
 
-    ghost meaning = { follow };
+    ghost meaning = { forward };
 
     ghost is_dependent = { λ _. true };
 
@@ -63,7 +63,7 @@ impl App for Follow {
         (view.get(&other).unwrap_or(0), Writes::of(other, *args))
     }
 
-    ghost lawful = { follow_lawful };
+    ghost lawful = { forward_lawful };
 
     ghost rows_fit = { lit< tt };
 
@@ -78,25 +78,9 @@ impl App for Follow {
     ghost replies_exact = { numbers_exact };
 }
 
-/// The first attempt at a request with these sets.
-fn txn(args: u64, reads: &[u64], writes: &[u64]) -> Result<Txn<u64>, Fault> {
-    Ok(Txn {
-        id: RequestId {
-            client: 7,
-            number: 1,
-        },
-        attempt: 1,
-        args,
-        sets: Sets {
-            reads: set(reads)?,
-            writes: set(writes)?,
-        },
-    })
-}
-
 #[test]
-fn follows_rows(rt: HostRuntime) -> Result<(), Fail> {
-    let mut serial = Serial::new(rt.alloc(), Follow);
+fn rows_forwarded(rt: HostRuntime) -> Result<(), Fail> {
+    let mut serial = Serial::new(rt.alloc(), Forward);
     // A request, its declared reads and writes, what it is told, and the rows of 0, 3 and 5 after it.
     for (args, reads, writes, told, rows) in [
         // 3 has no row, so it names 0.
@@ -121,7 +105,7 @@ fn follows_rows(rt: HostRuntime) -> Result<(), Fail> {
             Some(reply) => Answer::Reply(reply),
             None => Answer::Changed,
         };
-        let answer = serial.apply(&txn(args, reads, writes)?)?;
+        let answer = serial.apply(&txn(args, set(reads)?, set(writes)?))?;
         assert!(rt; answer == want, "{args} with {reads:?} and {writes:?}");
         for (id, row) in [0, 3, 5].into_iter().zip(rows) {
             assert_eq!(rt; serial.rows().get(&key(id)), row);
@@ -131,11 +115,11 @@ fn follows_rows(rt: HostRuntime) -> Result<(), Fail> {
 }
 
 #[test]
-fn what_follow_says_of_itself(rt: HostRuntime) -> Result<(), Fail> {
+fn what_forward_says_of_itself(rt: HostRuntime) -> Result<(), Fail> {
     let sets = Sets {
         reads: set(&[0, 3])?,
         writes: set(&[0])?,
     };
-    assert!(rt; described(&Follow, &3) == (2, 0, true, sets));
+    assert!(rt; described(&Forward, &3) == (2, 0, true, sets));
     Ok(())
 }
