@@ -1,3 +1,4 @@
+pub mod Digits
 pub mod Turns
 pub mod Steps
 pub mod KeyTurns

@@ -63,6 +63,10 @@ impl<Op: OperationTokens> Piece for GroupBatch<Op> {
 
     ghost deep = { 124 };
 
+    fn first_room() -> usize {
+        1
+    }
+
     fn push_tokens(
         alloc: Global,
         reader: &mut Reader<'_>,
@@ -88,6 +92,10 @@ impl<Op: OperationTokens> Piece for Epoch<Op> {
     ghost spelled = { list (batch Op.grammar) };
 
     ghost deep = { 125 };
+
+    fn first_room() -> usize {
+        1
+    }
 
     fn push_tokens(
         alloc: Global,

@@ -21,21 +21,25 @@ pub(crate) trait Piece: Drop {
     /// How many levels it may nest.
     ghost deep: { ℕ };
 
+    /// How many a list has room for from the start; a longer one grows.
+    fn first_room() -> usize;
+
     /// Puts what the next tokens spell at the end of a list.
     fn push_tokens(alloc: Global, reader: &mut Reader<'_>, found: &mut Vec<Self>) -> Option<()>
         ensures { OnSome result (SpellsOneMore spelled deep reader.old
             (map meaning found.old.items) (map meaning found.new.items) reader.new) };
 }
 
-/// The list that the next tokens spell.
+/// The list that the next tokens spell. It keeps no more memory than it needs.
 pub(crate) fn list_of<T: Piece>(alloc: Global, reader: &mut Reader<'_>) -> Option<Vec<T>>
     ensures { IfSome result (λ v. Spells (list T.spelled) (suc T.deep) reader.old
         (map T.meaning v.items) reader.new) }
 {
     opens_array(reader)?;
-    let mut found = Vec::new(alloc);
+    let mut found = Vec::with_capacity(alloc, T::first_room()).ok()?;
     'items: while !ends_array(reader) {
         T::push_tokens(alloc, reader, &mut found)?;
     }
+    found.shrink_to_fit();
     Some(found)
 }

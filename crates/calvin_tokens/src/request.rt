@@ -11,7 +11,7 @@ use crate::object::{Object, read_object};
 use crate::operation::OperationTokens;
 use crate::tokens::{is_same, u8_of, u32_of};
 use calvin_script::{Request, WholeKey};
-use calvin_types::{KeySet, RequestId, Sets, Txn};
+use calvin_types::{KeySet, MOST_REQUESTS, RequestId, Sets, Txn};
 use json::Reader;
 use std::alloc::Global;
 
@@ -140,6 +140,10 @@ impl<Op: OperationTokens> Piece for Request<Op> {
     ghost spelled = { request Op.grammar };
 
     ghost deep = { 122 };
+
+    fn first_room() -> usize {
+        MOST_REQUESTS
+    }
 
     fn push_tokens(
         alloc: Global,

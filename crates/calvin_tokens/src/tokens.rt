@@ -1,5 +1,6 @@
 //! Tokens that stand where they usually do. Where others stand there is no answer, and any tokens may be left.
-ghost use Rattle.std.specs.Prelude.{◌≡◌, ◌∷◌, ◌^◌, ◌≤◌, option_map, IfSome, OnSome, IsTrue, IsFalse};
+ghost use Rattle.std.specs.Prelude.{◌≡◌, ◌∷◌, ◌^◌, ◌≤◌, length, option_map, IfSome, OnSome, IsTrue, IsFalse};
+ghost use Rattle.std.specs.Str.Parse.{AllDigits, digits_value};
 ghost use Rattle.json.specs.Token as token;
 ghost use Rattle.serde_json.specs.Data.{unsigned, number};
 ghost use Rattle.serde_json.specs.Read.{number_of};
@@ -9,14 +10,32 @@ ghost use Rattle.calvin_tokens.specs.Spelled.{Reads, Spells, key_or_end};
 use fast_float::Numeral;
 use json::{Reader, Token};
 
+/// The number that at most 19 digits write.
+fn short_digits(bytes: &[u8]) -> Option<u64>
+    requires { length bytes.now ≤ 19 }
+    ensures { IfSome result (λ n. AllDigits 10 bytes.now × (n ≡ digits_value 10 bytes.now)) }
+{
+    let mut n = 0;
+    for byte in bytes {
+        if !byte.is_ascii_digit() {
+            return None;
+        }
+        n = n * 10 + (*byte - b'0') as u64;
+    }
+    Some(n)
+}
+
 /// The number that a text writes in digits alone, below 2^64.
-#[tactic(auto, unfolding(serde_json::specs::Read::number_of))]
+#[tactic(auto, unfolding(serde_json::specs::Read::number_of), using(crate::proofs::Digits::short_number))]
 fn digits_of(text: &str) -> Option<u64>
     ensures { IfSome result (λ n. number_of text.now ≡ Some (unsigned n)) }
 {
     let bytes = text.as_bytes();
     if bytes.is_empty() || bytes[0] == b'-' {
         return None;
+    }
+    if bytes.len() < 20 {
+        return short_digits(bytes);
     }
     Numeral::scan(bytes).to_u64()
 }

@@ -24,5 +24,5 @@ returns g c =
     let one = g.T.Piece in
     let closed : c.items.reader ≡ Token.end_array ∷ c.ends_array.new.reader = grind arith in
     let opened : c.args.reader.now ≡ Token.begin_array ∷ c.opens_array.new.reader = grind arith in
-    rw opened (list_spelled one.spelled one.deep c.opens_array.new.reader c.ends_array.new.reader _
+    rw (opened, c.shrink_to_fit.ensures.items) (list_spelled one.spelled one.deep c.opens_array.new.reader c.ends_array.new.reader _
     (each_done one.spelled one.deep c.opens_array.new.reader c.items.reader c.ends_array.new.reader _ c.items.invariant closed))
