@@ -17,8 +17,3 @@ pub use contents::{Epoch, GroupBatch, Request, Script};
 pub use key_list::{KeyForm, WholeKey, read_key_set};
 pub use operation::Operation;
 pub use reading::{AppName, Document, script_from};
-
-#[cfg(test)]
-mod tests;
-#[cfg(test)]
-mod twice_tests;
