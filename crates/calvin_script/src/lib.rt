@@ -18,8 +18,3 @@ pub use key_list::{KeyForm, WholeKey, read_key_set};
 pub use kv::RowNumber;
 pub use operation::Operation;
 pub use reading::{AppName, Document, script_from};
-
-#[cfg(test)]
-mod tests;
-#[cfg(test)]
-mod twice_tests;

@@ -1,6 +1,7 @@
-use crate::{AppName, Document, Epoch, GroupBatch, Request, Script, script_from};
+//! Which bytes are scripts.
 use calvin_app::KvRequest;
-use calvin_types::{Fault, Key, KeySet, MOST_REQUESTS, RequestId, Sets, Txn};
+use calvin_script::{AppName, Document, script_from};
+use calvin_types::Fault;
 use std::alloc::{AllocError, Global};
 use std::test::Fail;
 
@@ -257,6 +258,13 @@ fn operations(rt: HostRuntime) -> Result<(), Fail> {
         (r#"["put",18446744073709551615,18446744073709551615]"#, None),
         (r#"["add",0,0]"#, None),
         (r#"["get",[18446744073709551615,0]]"#, None),
+        (
+            r#"["move",18446744073709551615,0,18446744073709551615]"#,
+            None,
+        ),
+        (r#"["move",3,3,0]"#, None),
+        (r#"["follow",18446744073709551615]"#, None),
+        (r#"["follow",0]"#, None),
         (r#"["put",18446744073709551616,1]"#, bad),
         (r#"["put",1,18446744073709551616]"#, bad),
         (r#"["add",1,18446744073709551616]"#, bad),
@@ -271,6 +279,25 @@ fn operations(rt: HostRuntime) -> Result<(), Fail> {
         (r#"["put","1",2]"#, bad),
         (r#"["add",1]"#, bad),
         (r#"["add",1,2,3]"#, bad),
+        (r#"["move",18446744073709551616,1,1]"#, bad),
+        (r#"["move",1,18446744073709551616,1]"#, bad),
+        (r#"["move",1,2,18446744073709551616]"#, bad),
+        (r#"["move",-1,2,3]"#, bad),
+        (r#"["move",1,-0,3]"#, bad),
+        (r#"["move",1,2,3.0]"#, bad),
+        (r#"["move",1,2,"3"]"#, bad),
+        (r#"["move",[1],2,3]"#, bad),
+        (r#"["move",1,2]"#, bad),
+        (r#"["move",1,2,3,4]"#, bad),
+        (r#"["move"]"#, bad),
+        (r#"["follow",18446744073709551616]"#, bad),
+        (r#"["follow",-1]"#, bad),
+        (r#"["follow",1e0]"#, bad),
+        (r#"["follow","1"]"#, bad),
+        (r#"["follow",[1]]"#, bad),
+        (r#"["follow",null]"#, bad),
+        (r#"["follow"]"#, bad),
+        (r#"["follow",1,2]"#, bad),
         (r#"["get"]"#, bad),
         (r#"["get",1]"#, bad),
         (r#"["get",[1],2]"#, bad),
@@ -281,7 +308,10 @@ fn operations(rt: HostRuntime) -> Result<(), Fail> {
         (r#"["get",{}]"#, bad),
         (r#"["Put",1,2]"#, bad),
         (r#"["putt",1,2]"#, bad),
-        (r#"["move",1,2,3]"#, bad),
+        (r#"["Move",1,2,3]"#, bad),
+        (r#"["moved",1,2,3]"#, bad),
+        (r#"["Follow",1]"#, bad),
+        (r#"["follows",1]"#, bad),
         (r#"["",1,2]"#, bad),
         (r#"[1,1,2]"#, bad),
         (r#"[null,1,2]"#, bad),
@@ -335,111 +365,6 @@ fn longest_batch(rt: HostRuntime) -> Result<(), Fail> {
         let script = with_batches(rt.alloc(), batch.as_str())?;
         assert_eq!(rt; fault_of(rt.alloc(), script.as_bytes()), fault, "{count}");
     }
-    Ok(())
-}
-
-pub(crate) fn key(table: u8, id: u64) -> Key {
-    Key { table, id }
-}
-
-pub(crate) fn id(client: u32, number: u32) -> RequestId {
-    RequestId { client, number }
-}
-
-/// The batch of a group that has these requests, at most 256.
-fn listed(group: u8, requests: Vec<Request<KvRequest>>) -> Result<GroupBatch<KvRequest>, Fault> {
-    if requests.len() > MOST_REQUESTS {
-        return Err(Fault::TooLong);
-    }
-    Ok(GroupBatch { group, requests })
-}
-
-/// A batch of group 1: a put, a get and an add, without declared sets.
-fn first_batch(alloc: Global) -> Result<GroupBatch<KvRequest>, Fault> {
-    let put = Txn {
-        id: id(7, 1),
-        attempt: 1,
-        args: KvRequest::Put(5, 9),
-        sets: Sets {
-            reads: KeySet::new(),
-            writes: KeySet::of(key(0, 5)),
-        },
-    };
-    let asked = KeySet::from_slice(&[key(0, 2), key(0, 5)])?;
-    let get = Txn {
-        id: id(7, 2),
-        attempt: 1,
-        args: KvRequest::Get(asked),
-        sets: Sets {
-            reads: asked,
-            writes: KeySet::new(),
-        },
-    };
-    let add = Txn {
-        id: id(4294967295, 0),
-        attempt: 8,
-        args: KvRequest::Add(5, 18446744073709551615),
-        sets: Sets {
-            reads: KeySet::of(key(0, 5)),
-            writes: KeySet::of(key(0, 5)),
-        },
-    };
-    let mut requests = Vec::new(alloc);
-    for txn in [put, get, add] {
-        requests.push(Request {
-            txn,
-            is_declared: false,
-        })?;
-    }
-    listed(1, requests)
-}
-
-/// A batch of group 0: an add with declared sets.
-fn second_batch(alloc: Global) -> Result<GroupBatch<KvRequest>, Fault> {
-    let txn = Txn {
-        id: id(1, 2),
-        attempt: 3,
-        args: KvRequest::Add(1, 2),
-        sets: Sets {
-            reads: KeySet::from_slice(&[key(0, 8), key(0, 9), key(200, 1)])?,
-            writes: KeySet::of(key(0, 9)),
-        },
-    };
-    let mut requests = Vec::new(alloc);
-    requests.push(Request {
-        txn,
-        is_declared: true,
-    })?;
-    listed(0, requests)
-}
-
-#[test]
-fn a_script_in_full(rt: HostRuntime) -> Result<(), Fail> {
-    let text = r#"{"partitions":2,"app":"kv","epochs":[
-        [{"group":1,"txns":[
-            {"client":7,"number":1,"op":["put",5,9]},
-            {"op":["get",[5,2]],"number":2,"client":7},
-            {"client":4294967295,"number":0,"attempt":8,"op":["add",5,18446744073709551615]}]},
-         {"group":0,"txns":[
-            {"client":1,"number":2,"op":["add",1,2],"attempt":3,"reads":[[200,1],[0,9],[0,8]],"writes":[[0,9]]}]}],
-        [],
-        [{"group":0,"txns":[]}]]}"#;
-    let alloc = rt.alloc();
-    let first = vec![in alloc; first_batch(alloc)?, second_batch(alloc)?]?;
-    let last = vec![in alloc; listed(0, Vec::new(alloc))?]?;
-    let epochs = vec![in alloc;
-        Epoch { batches: first },
-        Epoch {
-            batches: Vec::new(alloc)
-        },
-        Epoch { batches: last },
-    ]?;
-    let expected = Script {
-        partitions: 2,
-        epochs,
-    };
-    let found = script_from::<KvRequest>(alloc, text.as_bytes())?;
-    assert_eq!(rt; found, expected);
     Ok(())
 }
 

@@ -1,7 +1,8 @@
 //! Names that an object has twice: the last one counts, whatever the first one is.
-use crate::tests::{fault_of, id, key, with_batches, with_request};
-use crate::{Script, script_from};
+use crate::accepted::{fault_of, with_batches, with_request};
+use crate::spelled::{id, key};
 use calvin_app::KvRequest;
+use calvin_script::{Script, script_from};
 use calvin_types::{Fault, KeySet, Sets, Txn};
 use std::alloc::Global;
 use std::test::Fail;
