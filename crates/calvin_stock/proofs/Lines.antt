@@ -1,7 +1,7 @@
 -- The lines of an order as they are gone through: their keys, faults, totals and writes.
-use Rattle.std.proofs.Common.{◌≡◌, ℕ, zero, suc, ◌+◌, ◌<◌, ◌≤◌, ◌==◌, Bool, true, false, not, ◌||◌, List, [], ◌∷◌, ◌++◌, length, map, take, drop, Option, Some, slice_get, refl, sym, ap, ◌∙◌, arith, length-append}
+use Rattle.std.proofs.Common.{◌≡◌, ℕ, zero, suc, ◌+◌, ◌<◌, ◌≤◌, ◌==◌, true, false, ◌||◌, List, [], ◌∷◌, ◌++◌, length, map, take, drop, Option, Some, slice_get, refl, sym, ap, ◌∙◌, arith, length-append}
 use Rattle.std.specs.Option.{option_or}
-use Rattle.std.proofs.lemmas.Bool.{false≢true}
+use Rattle.std.proofs.lemmas.Bool.{or_parts, not-true}
 use Rattle.std.proofs.lemmas.List.{drop_all, length-take, length-map, map-append}
 use Rattle.std.proofs.lemmas.Option.{slice_get_within}
 use Rattle.calvin_types.specs.declared.key.Key.{Key}
@@ -55,18 +55,8 @@ room_after rows o ws w more so is = omega (arith, ap length is, length-append ws
 
 other_item : (xs : List Line) (i x : ℕ) (l : Line) → names_item xs x ≡ false → slice_get xs i ≡ Some l → (l.item == x) ≡ false
 other_item [] i x l none here = absurd (cc)
-other_item (y ∷ xs) zero x l none here = let first_is : y ≡ l = cc in ap (λ (m : Line). m.item == x) (sym first_is) ∙ neither (y.item == x) _ none where
-  neither : (a b : Bool) → (a || b) ≡ false → a ≡ false
-  neither true b h = h
-  neither false b h = refl
-other_item (y ∷ xs) (suc i) x l none here = other_item xs i x l (nor (y.item == x) _ none) here where
-  nor : (a b : Bool) → (a || b) ≡ false → b ≡ false
-  nor true b h = absurd (false≢true (sym h))
-  nor false b h = h
-
-pub not_true : (b : Bool) → not b ≡ true → b ≡ false
-not_true true h = absurd (false≢true h)
-not_true false h = refl
+other_item (y ∷ xs) zero x l none here = let first_is : y ≡ l = cc in ap (λ (m : Line). m.item == x) (sym first_is) ∙ (or_parts (y.item == x) _ none).0
+other_item (y ∷ xs) (suc i) x l none here = other_item xs i x l (or_parts (y.item == x) _ none).1 here
 
 -- the item of a line isn't among those before it
 pub untaken : (rows : Rows StockRow) (lines : List Line) (i : ℕ) (l : Line) → has_distinct_items lines ≡ true → slice_get lines i ≡ Some l → has (keys_of (map (taken rows) (take i lines))) (item_key l.item) ≡ false
@@ -74,7 +64,7 @@ untaken rows [] i l once here = absurd (cc)
 untaken rows (x ∷ xs) zero l once here = refl
 untaken rows (x ∷ xs) (suc i) l once here =
     ap (λ b. b || has (keys_of (map (taken rows) (take i xs))) (item_key l.item))
-    (sym (equal_keys_is_same_key (item_key l.item) (item_key x.item)) ∙ other_item xs i x.item l (not_true _ (first _ _ once)) here)
+    (sym (equal_keys_is_same_key (item_key l.item) (item_key x.item)) ∙ other_item xs i x.item l (not-true _ (first _ _ once)) here)
     ∙ untaken rows xs i l (second _ _ once) here
 
 pub order_untaken : (rows : Rows StockRow) (lines : List Line) (o : ℕ) → has (keys_of (map (taken rows) lines)) (order_key o) ≡ false
