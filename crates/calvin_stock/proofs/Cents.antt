@@ -38,6 +38,7 @@ unfoldable pub cents_at : Option StockRow → ℕ
 cents_at None = 0
 cents_at (Some r) = cents_of r
 
+-- a key below the first of rising entries is none of theirs
 lt_trans : (a b c : Key) → key_cmp a b ≡ Less → key_cmp b c ≡ Less → key_cmp a c ≡ Less
 lt_trans a b c p q = search (comparing, rules)
 

@@ -45,12 +45,12 @@ stock-insert rows j i x =
     ∙ ap (λ b. stock_of (as_item (cond b (Some (row.Item x)) (finmap.get rows (item_key i))))) (sym (equal_keys_is_same_key (item_key i) (item_key j)))
     ∙ elim (i == j) as (λ b. stock_of (as_item (cond b (Some (row.Item x)) (finmap.get rows (item_key i)))) ≡ (if b then x.stock else stock_at rows i)) [ true ↦ refl | false ↦ refl ]
 
--- so many pieces more of one item
-more_stock : (rows : Rows StockRow) (j i n had price : ℕ) → stock_at rows j ≡ had → stock_at rows i + (if i == j then n else 0) ≡ stock_at (finmap.insert rows (item_key j) (row.Item (record { stock = had + n; price = price }))) i
-more_stock rows j i n had price before = elim (i == j) as (λ b. (i == j) ≡ b → stock_at rows i + (if b then n else 0) ≡ (if b then had + n else stock_at rows i)) [
-  | true ↦ λ same. omega (arith, before, ap (stock_at rows) (eqb-true i j same))
+-- an item whose stock grows by so many pieces
+more_stock : (rows : Rows StockRow) (j i n had now price : ℕ) → stock_at rows j ≡ had → now ≡ had + n → stock_at rows i + (if i == j then n else 0) ≡ stock_at (finmap.insert rows (item_key j) (row.Item (record { stock = now; price = price }))) i
+more_stock rows j i n had now price before more = elim (i == j) as (λ b. (i == j) ≡ b → stock_at rows i + (if b then n else 0) ≡ (if b then now else stock_at rows i)) [
+  | true ↦ λ same. omega (arith, before, more, ap (stock_at rows) (eqb-true i j same))
   | false ↦ λ other. omega arith
-] refl ∙ sym (stock-insert rows j i (record { stock = had + n; price = price }))
+] refl ∙ sym (stock-insert rows j i (record { stock = now; price = price }))
 
 restock_keeps : (i j n : ℕ) (rows : Rows StockRow) (found : Option StockRow) → finmap.get rows (item_key j) ≡ found → KeepsPieces i (request.Restock j n) rows (restock j n (as_item found))
 restock_keeps i j n rows None is = refl
@@ -58,20 +58,14 @@ restock_keeps i j n rows (Some (row.Customer c)) is = refl
 restock_keeps i j n rows (Some (row.Order p)) is = refl
 restock_keeps i j n rows (Some (row.Item item)) is = elim (nat_lt MOST_PIECES (item.stock + n)) as (λ b. KeepsPieces i (request.Restock j n) rows (if b then told Limit else (Done, (item_key j, row.Item (record { stock = item.stock + n; price = item.price })) ∷ []))) [
   | true ↦ refl
-  | false ↦ omega (arith, more_stock rows j i n item.stock item.price (ap (λ (r : Option StockRow). stock_of (as_item r)) is))
+  | false ↦ omega (arith, more_stock rows j i n item.stock (item.stock + n) item.price (ap (λ (r : Option StockRow). stock_of (as_item r)) is) refl)
 ]
-
-new_stock : (rows : Rows StockRow) (j i n price : ℕ) → stock_at rows j ≡ 0 → stock_at rows i + (if i == j then n else 0) ≡ stock_at (finmap.insert rows (item_key j) (row.Item (record { stock = n; price = price }))) i
-new_stock rows j i n price before = elim (i == j) as (λ b. (i == j) ≡ b → stock_at rows i + (if b then n else 0) ≡ (if b then n else stock_at rows i)) [
-  | true ↦ λ same. omega (arith, before, ap (stock_at rows) (eqb-true i j same))
-  | false ↦ λ other. omega arith
-] refl ∙ sym (stock-insert rows j i (record { stock = n; price = price }))
 
 add_item_keeps : (i j s c : ℕ) (rows : Rows StockRow) (found : Option StockRow) → finmap.get rows (item_key j) ≡ found → KeepsPieces i (request.AddItem j s c) rows (add_item j s c found)
 add_item_keeps i j s c rows (Some r) is = elim (nat_lt MOST_PIECES s || nat_lt MOST_CENTS c) as (λ b. KeepsPieces i (request.AddItem j s c) rows (if b then told Limit else told Exists)) [ true ↦ refl | false ↦ refl ]
 add_item_keeps i j s c rows None is = elim (nat_lt MOST_PIECES s || nat_lt MOST_CENTS c) as (λ b. KeepsPieces i (request.AddItem j s c) rows (if b then told Limit else (Done, (item_key j, row.Item (record { stock = s; price = c })) ∷ []))) [
   | true ↦ refl
-  | false ↦ omega (arith, new_stock rows j i s c (ap (λ (r : Option StockRow). stock_of (as_item r)) is))
+  | false ↦ omega (arith, more_stock rows j i s 0 s c (ap (λ (r : Option StockRow). stock_of (as_item r)) is) (omega arith))
 ]
 
 -- ---- an order

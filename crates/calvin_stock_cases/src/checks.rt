@@ -12,9 +12,10 @@ fn ask(
     serial: &mut Serial<Stock>,
     table: &[(Asked, StockReply)],
 ) -> Result<(), Fault> {
-    for (asked, want) in table {
-        let answer = serial.apply(&txn(1, asked)?)?;
-        assert!(rt; answer == Answer::Reply(*want), "{answer:?} to {asked:?}");
+    for i in 0..table.len() {
+        let (asked, want) = table[i];
+        let answer = serial.apply(&txn(1, &asked)?)?;
+        assert!(rt; answer == Answer::Reply(want), "{answer:?} in row {i}");
     }
     Ok(())
 }

@@ -3,7 +3,7 @@ use calvin_stock::{Line, Order, StockRequest};
 use calvin_types::{Fault, Key, KeySet, RequestId, Sets, Txn};
 
 /// What is asked: as a script has it, with an order's lines as pairs of an item and its pieces.
-#[derive(Clone, Copy, Debug)]
+#[derive(Clone, Copy)]
 pub(crate) enum Asked {
     /// An item, its pieces and its price.
     AddItem(u64, u64, u64),
