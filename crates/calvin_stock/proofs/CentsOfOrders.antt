@@ -3,13 +3,9 @@ use Rattle.std.proofs.Common.{◌≡◌, ℕ, ◌||◌, true, false, cond, List,
 use Rattle.std.specs.Prelude.{if◌then◌else◌, nat_lt}
 use Rattle.std.specs.Option.{is_some, option_or}
 use Rattle.std.specs.FinMap as finmap
-use Rattle.std.proofs.Math.Bool.{or-false, or-true}
-use Rattle.std.specs.Ordering.{eq_by_cmp}
-use Rattle.std.proofs.lemmas.List.Folds.{list_any-append}
-use Rattle.calvin_types.specs.declared.key.Key.{Key}
-use Rattle.calvin_types.specs.Keys.{key_cmp, has, same_key}
+use Rattle.std.proofs.Math.Bool.{or-true}
+use Rattle.calvin_types.specs.Keys.{has, same_key}
 use Rattle.calvin_types.specs.KeyOrder.{key_cmp_total, same_key-self}
-use Rattle.calvin_types.proofs.KeySets.{has-insert_all}
 use Rattle.calvin_app.specs.Rows.{Rows, overwritten}
 use Rattle.calvin_stock.specs.declared.order.Line.{Line}
 use Rattle.calvin_stock.specs.declared.order.Order.{Order}
@@ -24,12 +20,10 @@ use Rattle.calvin_stock.specs.declared.limits.TheConstants.{MOST_CENTS}
 use Rattle.calvin_stock.specs.StockRows.{customer_key, item_key, order_key, as_customer, as_item, item_at}
 use Rattle.calvin_stock.specs.Operations.{line_fault, first_fault, taken, left, placed, place, unless_fault, total_of, told}
 use Rattle.calvin_stock.specs.Stock.{item_keys, order_keys}
-use Rattle.calvin_stock.specs.Totals.{cents_in}
-use Rattle.calvin_stock.proofs.Cents.{cents_at, cents-insert, Keeps, KeepsOnViews}
-
-pub overwritten-append : (xs ys : List (Key × StockRow)) (rows : Rows StockRow) → overwritten rows (xs ++ ys) ≡ overwritten (overwritten rows xs) ys
-overwritten-append [] ys rows = refl
-overwritten-append (x ∷ xs) ys rows = overwritten-append xs ys (finmap.insert rows x.0 x.1)
+use Rattle.calvin_stock.specs.Totals.{cents_in, paid_one}
+use Rattle.calvin_stock.proofs.Flows.{Flows}
+use Rattle.calvin_stock.proofs.Seen.{IsSeen, has-item, has-number, has-customer, overwritten-append}
+use Rattle.calvin_stock.proofs.Cents.{cents_at, cents-insert, unspent}
 
 -- no cents stand under the items of lines
 abbrev AllZero : List Line → Rows StockRow → Type 0
@@ -73,16 +67,16 @@ later_none None rest h = h
 later_none (Some x) rest h = absurd (cc)
 
 -- where no line is at fault, there are items
-all_zero : (v rows : Rows StockRow) (ls : List Line) → ((k : Key) → has (item_keys ls) k ≡ true → finmap.get v k ≡ finmap.get rows k) → first_fault ls v ≡ None → AllZero ls rows
+all_zero : (v rows : Rows StockRow) (ls : List Line) → IsSeen v rows (item_keys ls) → first_fault ls v ≡ None → AllZero ls rows
 all_zero v rows [] same h = tt
 all_zero v rows (l ∷ ls) same h = (
   ap cents_at (sym (same (item_key l.item) (ap (λ b. b || has (item_keys ls) (item_key l.item)) (same_key-self (item_key l.item))))) ∙ no_item_zero l (finmap.get v (item_key l.item)) (first_fault ls v) h,
   all_zero v rows ls (λ k there. same k (ap (λ b. same_key k (item_key l.item) || b) there ∙ or-true (same_key k (item_key l.item)))) (later_none (line_fault l (item_at v l.item)) (first_fault ls v) h),
 )
 
-placed_keeps : (o : Order) (v rows : Rows StockRow) (c : Customer) (total : ℕ) → AllZero o.lines rows → finmap.get rows (order_key o.number) ≡ None → finmap.get rows (customer_key o.customer) ≡ Some (row.Customer c) → Keeps (request.Order o) rows (placed o v c total)
+placed_keeps : (o : Order) (v rows : Rows StockRow) (c : Customer) (total : ℕ) → AllZero o.lines rows → finmap.get rows (order_key o.number) ≡ None → finmap.get rows (customer_key o.customer) ≡ Some (row.Customer c) → Flows cents_in paid_one unspent (request.Order o) rows (placed o v c total)
 unfolding cents_at
-placed_keeps o v rows c total zero none there = elim (nat_lt MOST_CENTS total) as (λ b. Keeps (request.Order o) rows (if b then told Limit else (Ordered total, map (taken v) o.lines ++ (order_key o.number, row.Order (record { customer = o.customer; total = total; settled = false })) ∷ (customer_key o.customer, row.Customer (record { balance = c.balance; last_order = Some o.number })) ∷ []))) [
+placed_keeps o v rows c total zero none there = elim (nat_lt MOST_CENTS total) as (λ b. Flows cents_in paid_one unspent (request.Order o) rows (if b then told Limit else (Ordered total, map (taken v) o.lines ++ (order_key o.number, row.Order (record { customer = o.customer; total = total; settled = false })) ∷ (customer_key o.customer, row.Customer (record { balance = c.balance; last_order = Some o.number })) ∷ []))) [
   | true ↦ omega arith
   | false ↦
       let after = overwritten rows (map (taken v) o.lines) in
@@ -99,44 +93,17 @@ placed_keeps o v rows c total zero none there = elim (nat_lt MOST_CENTS total) a
 
 -- ---- an order, on a view
 
--- the keys of an order are those of its items, its own and its customer's
-has-order : (o : Order) (k : Key) → has (order_keys o) k ≡ (has (item_keys o.lines) k || has (order_key o.number ∷ customer_key o.customer ∷ []) k)
-has-order o k =
-    has-insert_all k (item_keys o.lines ++ order_key o.number ∷ customer_key o.customer ∷ []) []
-    ∙ or-false (has (item_keys o.lines ++ order_key o.number ∷ customer_key o.customer ∷ []) k)
-    ∙ list_any-append (eq_by_cmp key_cmp k) (item_keys o.lines) (order_key o.number ∷ customer_key o.customer ∷ [])
-
-pub has-item : (o : Order) (k : Key) → has (item_keys o.lines) k ≡ true → has (order_keys o) k ≡ true
-has-item o k h = has-order o k ∙ ap (λ b. b || has (order_key o.number ∷ customer_key o.customer ∷ []) k) h
-
-has-order_key : (o : Order) → has (order_keys o) (order_key o.number) ≡ true
-has-order_key o =
-    has-order o (order_key o.number)
-    ∙ ap (λ b. has (item_keys o.lines) (order_key o.number) || (b || (same_key (order_key o.number) (customer_key o.customer) || false))) (same_key-self (order_key o.number))
-    ∙ or-true (has (item_keys o.lines) (order_key o.number))
-
-has-customer_key : (o : Order) → has (order_keys o) (customer_key o.customer) ≡ true
-has-customer_key o =
-    has-order o (customer_key o.customer)
-    ∙ ap (λ b. has (item_keys o.lines) (customer_key o.customer) || (same_key (customer_key o.customer) (order_key o.number) || (b || false))) (same_key-self (customer_key o.customer))
-    ∙ ap (λ b. has (item_keys o.lines) (customer_key o.customer) || b) (or-true (same_key (customer_key o.customer) (order_key o.number)))
-    ∙ or-true (has (item_keys o.lines) (customer_key o.customer))
-
-place_keeps : (o : Order) (v rows : Rows StockRow) (found : Option StockRow) → finmap.get v (customer_key o.customer) ≡ found → ((k : Key) → has (order_keys o) k ≡ true → finmap.get v k ≡ finmap.get rows k) → Keeps (request.Order o) rows (place o v (as_customer found))
+pub place_keeps : (o : Order) (v rows : Rows StockRow) (found : Option StockRow) → finmap.get v (customer_key o.customer) ≡ found → IsSeen v rows (order_keys o) → Flows cents_in paid_one unspent (request.Order o) rows (place o v (as_customer found))
 place_keeps o v rows None is same = omega arith
 place_keeps o v rows (Some (row.Item i)) is same = omega arith
 place_keeps o v rows (Some (row.Order p)) is same = omega arith
-place_keeps o v rows (Some (row.Customer c)) is same = elim (finmap.get v (order_key o.number)) as (λ f. finmap.get v (order_key o.number) ≡ f → Keeps (request.Order o) rows (if is_some f then told OrderExists else unless_fault (first_fault o.lines v) (placed o v c (total_of o.lines v)))) [
+place_keeps o v rows (Some (row.Customer c)) is same = elim (finmap.get v (order_key o.number)) as (λ f. finmap.get v (order_key o.number) ≡ f → Flows cents_in paid_one unspent (request.Order o) rows (if is_some f then told OrderExists else unless_fault (first_fault o.lines v) (placed o v c (total_of o.lines v)))) [
   | Some r ↦ λ there. omega arith
-  | None ↦ λ none. elim (first_fault o.lines v) as (λ f. first_fault o.lines v ≡ f → Keeps (request.Order o) rows (unless_fault f (placed o v c (total_of o.lines v)))) [
+  | None ↦ λ none. elim (first_fault o.lines v) as (λ f. first_fault o.lines v ≡ f → Flows cents_in paid_one unspent (request.Order o) rows (unless_fault f (placed o v c (total_of o.lines v)))) [
     | Some fault ↦ λ wrong. omega arith
     | None ↦ λ right. placed_keeps o v rows c (total_of o.lines v)
         (all_zero v rows o.lines (λ k there. same k (has-item o k there)) right)
-        (sym (same (order_key o.number) (has-order_key o)) ∙ none)
-        (sym (same (customer_key o.customer) (has-customer_key o)) ∙ is)
+        (sym (same (order_key o.number) (has-number o)) ∙ none)
+        (sym (same (customer_key o.customer) (has-customer o)) ∙ is)
   ] refl
 ] refl
-
-pub order_on_views : (o : Order) → KeepsOnViews (request.Order o)
-unfolding KeepsOnViews
-order_on_views o rows v same = place_keeps o v rows (finmap.get v (customer_key o.customer)) refl same

@@ -1,7 +1,7 @@
 -- The lines of an order as they are gone through: their keys, faults, totals and writes.
-use Rattle.std.proofs.Common.{◌≡◌, ℕ, zero, suc, ◌+◌, ◌<◌, ◌≤◌, ◌==◌, Bool, true, false, not, ◌||◌, List, [], ◌∷◌, ◌++◌, length, map, take, drop, Option, Some, slice_get, refl, sym, ap, ◌∙◌, arith, length-append}
+use Rattle.std.proofs.Common.{◌≡◌, ℕ, zero, suc, ◌+◌, ◌<◌, ◌≤◌, ◌==◌, true, false, ◌||◌, List, [], ◌∷◌, ◌++◌, length, map, take, drop, Option, Some, slice_get, refl, sym, ap, ◌∙◌, arith, length-append}
 use Rattle.std.specs.Option.{option_or}
-use Rattle.std.proofs.lemmas.Bool.{false≢true}
+use Rattle.std.proofs.lemmas.Bool.{or_parts, not-true}
 use Rattle.std.proofs.lemmas.List.{drop_all, length-take, length-map, map-append}
 use Rattle.std.proofs.lemmas.Option.{slice_get_within}
 use Rattle.calvin_types.specs.declared.key.Key.{Key}
@@ -21,10 +21,12 @@ use Rattle.calvin_stock.specs.Operations.{line_fault, first_fault, cost, total_o
 use Rattle.calvin_stock.specs.Stock.{item_keys}
 use Rattle.calvin_stock.specs.StockLaws.{at_most_four}
 
+-- keys that are put in one after another
 insert_all-append : (xs ys ks : List Key) → insert_all (xs ++ ys) ks ≡ insert_all ys (insert_all xs ks)
 insert_all-append [] ys ks = refl
 insert_all-append (x ∷ xs) ys ks = insert_all-append xs ys (insert_key x ks)
 
+-- what is left of the lines from a place on
 module _ (lines : List Line) (i : ℕ) where
   pub keys_at : (l : Line) (ks : List Key) → slice_get lines i ≡ Some l → insert_all (item_keys (drop i lines)) ks ≡ insert_all (item_keys (drop (i + 1) lines)) (insert_key (item_key l.item) ks)
   keys_at l ks here = ap (λ xs. insert_all (item_keys xs) ks) (drop_at lines i l here)
@@ -40,6 +42,7 @@ module _ (lines : List Line) (i : ℕ) where
   pub total_at : (rows : Rows StockRow) (l : Line) → slice_get lines i ≡ Some l → total_of (drop i lines) rows ≡ cost l (item_at rows l.item) + total_of (drop (i + 1) lines) rows
   total_at rows l here = ap (λ xs. total_of xs rows) (drop_at lines i l here)
 
+-- the writes of the lines so far, with one more
 pub taken_at : (rows : Rows StockRow) (lines : List Line) (i : ℕ) (l : Line) (ws : List (Key × StockRow)) (w : Key × StockRow) → slice_get lines i ≡ Some l → ws ≡ map (taken rows) (take i lines) → w ≡ taken rows l → ws ++ w ∷ [] ≡ map (taken rows) (take (i + 1) lines)
 taken_at rows lines i l ws w here so is = (λ j. so j ++ is j ∷ []) ∙ sym (ap (map (taken rows)) (take_at lines i l here) ∙ map-append (taken rows) (take i lines) (l ∷ []))
 
@@ -53,20 +56,11 @@ room rows o ws so = omega (arith, ap length so, length-map o.lines (taken rows),
 pub room_after : (rows : Rows StockRow) (o : Order) (ws : List (Key × StockRow)) (w : Key × StockRow) (more : List (Key × StockRow)) → ws ≡ map (taken rows) o.lines → more ≡ ws ++ w ∷ [] → length more < 16
 room_after rows o ws w more so is = omega (arith, ap length is, length-append ws (w ∷ []), ap length so, length-map o.lines (taken rows), at_most_four o)
 
+-- a line of lines that don't name an item is of another one
 other_item : (xs : List Line) (i x : ℕ) (l : Line) → names_item xs x ≡ false → slice_get xs i ≡ Some l → (l.item == x) ≡ false
 other_item [] i x l none here = absurd (cc)
-other_item (y ∷ xs) zero x l none here = let first_is : y ≡ l = cc in ap (λ (m : Line). m.item == x) (sym first_is) ∙ neither (y.item == x) _ none where
-  neither : (a b : Bool) → (a || b) ≡ false → a ≡ false
-  neither true b h = h
-  neither false b h = refl
-other_item (y ∷ xs) (suc i) x l none here = other_item xs i x l (nor (y.item == x) _ none) here where
-  nor : (a b : Bool) → (a || b) ≡ false → b ≡ false
-  nor true b h = absurd (false≢true (sym h))
-  nor false b h = h
-
-pub not_true : (b : Bool) → not b ≡ true → b ≡ false
-not_true true h = absurd (false≢true h)
-not_true false h = refl
+other_item (y ∷ xs) zero x l none here = let first_is : y ≡ l = cc in ap (λ (m : Line). m.item == x) (sym first_is) ∙ (or_parts (y.item == x) _ none).0
+other_item (y ∷ xs) (suc i) x l none here = other_item xs i x l (or_parts (y.item == x) _ none).1 here
 
 -- the item of a line isn't among those before it
 pub untaken : (rows : Rows StockRow) (lines : List Line) (i : ℕ) (l : Line) → has_distinct_items lines ≡ true → slice_get lines i ≡ Some l → has (keys_of (map (taken rows) (take i lines))) (item_key l.item) ≡ false
@@ -74,9 +68,10 @@ untaken rows [] i l once here = absurd (cc)
 untaken rows (x ∷ xs) zero l once here = refl
 untaken rows (x ∷ xs) (suc i) l once here =
     ap (λ b. b || has (keys_of (map (taken rows) (take i xs))) (item_key l.item))
-    (sym (equal_keys_is_same_key (item_key l.item) (item_key x.item)) ∙ other_item xs i x.item l (not_true _ (first _ _ once)) here)
+    (sym (equal_keys_is_same_key (item_key l.item) (item_key x.item)) ∙ other_item xs i x.item l (not-true _ (first _ _ once)) here)
     ∙ untaken rows xs i l (second _ _ once) here
 
+-- neither is the order's key among those of the lines, nor the customer's among those and the order's
 pub order_untaken : (rows : Rows StockRow) (lines : List Line) (o : ℕ) → has (keys_of (map (taken rows) lines)) (order_key o) ≡ false
 order_untaken rows [] o = refl
 order_untaken rows (l ∷ ls) o = order_untaken rows ls o

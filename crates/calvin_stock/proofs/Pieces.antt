@@ -3,20 +3,17 @@ use Rattle.std.proofs.Common.{◌≡◌, ℕ, ◌+◌, ◌-◌, ◌≤◌, ◌==
 use Rattle.std.specs.Prelude.{if◌then◌else◌, nat_lt}
 use Rattle.std.specs.FinMap as finmap
 use Rattle.std.proofs.Math.Bool.{or-true}
-use Rattle.std.proofs.lemmas.Bool.{eqb-true, false≢true, ltb-false}
+use Rattle.std.proofs.lemmas.Bool.{eqb-true, ltb-false, or_parts, not-true}
 use Rattle.std.proofs.lemmas.Bool.Decides.{nat_tests}
 use Rattle.std.specs.Option.{is_some, option_or}
-use Rattle.calvin_types.specs.declared.key.Key.{Key}
-use Rattle.calvin_types.specs.declared.key_set.Sets.{Sets}
 use Rattle.calvin_types.specs.declared.txn.Txn.{Txn}
 use Rattle.calvin_types.specs.Exact.{first, second}
 use Rattle.calvin_types.specs.Keys.{has, key_cmp, same_key}
 use Rattle.calvin_types.specs.KeyOrder.{key_cmp_total, same_key-self}
 use Rattle.calvin_types.specs.SameKeysLaws.{equal_keys_is_same_key}
 use Rattle.calvin_app.specs.declared.answer.Answer.TheVariants as answer
-use Rattle.calvin_app.specs.Rows.{Rows, view, overwritten}
-use Rattle.calvin_app.specs.RowLaws.{get-seen}
-use Rattle.calvin_app.specs.Serial.{serial, is_current, answer_on, writes_on, answer_one, after_one}
+use Rattle.calvin_app.specs.Rows.{Rows, overwritten}
+use Rattle.calvin_app.specs.Serial.{serial}
 use Rattle.calvin_stock.specs.declared.order.Line.{Line}
 use Rattle.calvin_stock.specs.declared.order.Order.{Order}
 use Rattle.calvin_stock.specs.declared.reply.StockReply.{StockReply}
@@ -28,19 +25,19 @@ use Rattle.calvin_stock.specs.declared.rows.StockRow.TheVariants as row
 use Rattle.calvin_stock.specs.declared.request.StockRequest.{StockRequest}
 use Rattle.calvin_stock.specs.declared.request.StockRequest.TheVariants as request
 use Rattle.calvin_stock.specs.declared.reply.StockReply.TheVariants.{Done, Limit, Exists, NoItem, Short, OrderExists, Ordered, NothingOpen, Poor, Settled}
-use Rattle.calvin_stock.specs.Lines.{has_distinct_items, names_item}
+use Rattle.calvin_stock.specs.Lines.{are_in_range, has_distinct_items, names_item}
 use Rattle.calvin_stock.specs.declared.limits.TheConstants.{MOST_PIECES, MOST_CENTS}
 use Rattle.calvin_stock.specs.StockRows.{customer_key, item_key, order_key, as_customer, as_item, item_at, order_at}
 use Rattle.calvin_stock.specs.Operations.{line_fault, first_fault, taken, left, placed, place, unless_fault, total_of, add_item, restock, open_customer, pay_in, settle_order, settle_last, settle, tell_balance, Outcome, told}
-use Rattle.calvin_stock.specs.Stock.{stock, outcome_of, needs_of, item_keys, order_keys}
+use Rattle.calvin_stock.specs.Stock.{stock, item_keys, order_keys}
 use Rattle.calvin_stock.specs.Totals.{stock_of, stock_at, pieces_of, added_one, ordered_one, added, ordered}
-use Rattle.calvin_stock.proofs.Cents.{same_sets_exact}
-use Rattle.calvin_stock.proofs.CentsOfOrders.{overwritten-append, later_none, has-item}
-use Rattle.calvin_stock.proofs.Lines.{not_true}
+use Rattle.calvin_stock.proofs.CentsOfOrders.{later_none}
+use Rattle.calvin_stock.proofs.Flows.{Flows, FlowsSeen, all_flow}
+use Rattle.calvin_stock.proofs.Seen.{IsSeen, has-alone, has-item, overwritten-append}
 
--- what an outcome does to the pieces of the item i, and what it adds and takes of them
-abbrev pub KeepsPieces : ℕ → StockRequest → Rows StockRow → Outcome → Type 0
-KeepsPieces i a rows o = stock_at rows i + added_one i a (answer.Reply o.0) ≡ stock_at (overwritten rows o.1) i + ordered_one i a (answer.Reply o.0)
+-- what an outcome does to the pieces of the item i
+abbrev KeepsPieces : ℕ → StockRequest → Rows StockRow → Outcome → Type 0
+KeepsPieces i = Flows (λ rows. stock_at rows i) (added_one i) (ordered_one i)
 
 stock-insert : (rows : Rows StockRow) (j i : ℕ) (x : Item) → stock_at (finmap.insert rows (item_key j) (row.Item x)) i ≡ (if i == j then x.stock else stock_at rows i)
 stock-insert rows j i x =
@@ -48,33 +45,27 @@ stock-insert rows j i x =
     ∙ ap (λ b. stock_of (as_item (cond b (Some (row.Item x)) (finmap.get rows (item_key i))))) (sym (equal_keys_is_same_key (item_key i) (item_key j)))
     ∙ elim (i == j) as (λ b. stock_of (as_item (cond b (Some (row.Item x)) (finmap.get rows (item_key i)))) ≡ (if b then x.stock else stock_at rows i)) [ true ↦ refl | false ↦ refl ]
 
--- so many pieces more of one item
-more_stock : (rows : Rows StockRow) (j i n had price : ℕ) → stock_at rows j ≡ had → stock_at rows i + (if i == j then n else 0) ≡ stock_at (finmap.insert rows (item_key j) (row.Item (record { stock = had + n; price = price }))) i
-more_stock rows j i n had price before = elim (i == j) as (λ b. (i == j) ≡ b → stock_at rows i + (if b then n else 0) ≡ (if b then had + n else stock_at rows i)) [
-  | true ↦ λ same. omega (arith, before, ap (stock_at rows) (eqb-true i j same))
+-- an item whose stock grows by so many pieces
+more_stock : (rows : Rows StockRow) (j i n had now price : ℕ) → stock_at rows j ≡ had → now ≡ had + n → stock_at rows i + (if i == j then n else 0) ≡ stock_at (finmap.insert rows (item_key j) (row.Item (record { stock = now; price = price }))) i
+more_stock rows j i n had now price before more = elim (i == j) as (λ b. (i == j) ≡ b → stock_at rows i + (if b then n else 0) ≡ (if b then now else stock_at rows i)) [
+  | true ↦ λ same. omega (arith, before, more, ap (stock_at rows) (eqb-true i j same))
   | false ↦ λ other. omega arith
-] refl ∙ sym (stock-insert rows j i (record { stock = had + n; price = price }))
+] refl ∙ sym (stock-insert rows j i (record { stock = now; price = price }))
 
-pub restock_keeps : (i j n : ℕ) (rows : Rows StockRow) (found : Option StockRow) → finmap.get rows (item_key j) ≡ found → KeepsPieces i (request.Restock j n) rows (restock j n (as_item found))
+restock_keeps : (i j n : ℕ) (rows : Rows StockRow) (found : Option StockRow) → finmap.get rows (item_key j) ≡ found → KeepsPieces i (request.Restock j n) rows (restock j n (as_item found))
 restock_keeps i j n rows None is = refl
 restock_keeps i j n rows (Some (row.Customer c)) is = refl
 restock_keeps i j n rows (Some (row.Order p)) is = refl
 restock_keeps i j n rows (Some (row.Item item)) is = elim (nat_lt MOST_PIECES (item.stock + n)) as (λ b. KeepsPieces i (request.Restock j n) rows (if b then told Limit else (Done, (item_key j, row.Item (record { stock = item.stock + n; price = item.price })) ∷ []))) [
   | true ↦ refl
-  | false ↦ omega (arith, more_stock rows j i n item.stock item.price (ap (λ (r : Option StockRow). stock_of (as_item r)) is))
+  | false ↦ omega (arith, more_stock rows j i n item.stock (item.stock + n) item.price (ap (λ (r : Option StockRow). stock_of (as_item r)) is) refl)
 ]
 
-new_stock : (rows : Rows StockRow) (j i n price : ℕ) → stock_at rows j ≡ 0 → stock_at rows i + (if i == j then n else 0) ≡ stock_at (finmap.insert rows (item_key j) (row.Item (record { stock = n; price = price }))) i
-new_stock rows j i n price before = elim (i == j) as (λ b. (i == j) ≡ b → stock_at rows i + (if b then n else 0) ≡ (if b then n else stock_at rows i)) [
-  | true ↦ λ same. omega (arith, before, ap (stock_at rows) (eqb-true i j same))
-  | false ↦ λ other. omega arith
-] refl ∙ sym (stock-insert rows j i (record { stock = n; price = price }))
-
-pub add_item_keeps : (i j s c : ℕ) (rows : Rows StockRow) (found : Option StockRow) → finmap.get rows (item_key j) ≡ found → KeepsPieces i (request.AddItem j s c) rows (add_item j s c found)
+add_item_keeps : (i j s c : ℕ) (rows : Rows StockRow) (found : Option StockRow) → finmap.get rows (item_key j) ≡ found → KeepsPieces i (request.AddItem j s c) rows (add_item j s c found)
 add_item_keeps i j s c rows (Some r) is = elim (nat_lt MOST_PIECES s || nat_lt MOST_CENTS c) as (λ b. KeepsPieces i (request.AddItem j s c) rows (if b then told Limit else told Exists)) [ true ↦ refl | false ↦ refl ]
 add_item_keeps i j s c rows None is = elim (nat_lt MOST_PIECES s || nat_lt MOST_CENTS c) as (λ b. KeepsPieces i (request.AddItem j s c) rows (if b then told Limit else (Done, (item_key j, row.Item (record { stock = s; price = c })) ∷ []))) [
   | true ↦ refl
-  | false ↦ omega (arith, new_stock rows j i s c (ap (λ (r : Option StockRow). stock_of (as_item r)) is))
+  | false ↦ omega (arith, more_stock rows j i s 0 s c (ap (λ (r : Option StockRow). stock_of (as_item r)) is) (omega arith))
 ]
 
 -- ---- an order
@@ -85,10 +76,6 @@ stock-customer rows u i r = ap (λ (x : Option StockRow). stock_of (as_item x)) 
 
 stock-order : (rows : Rows StockRow) (o i : ℕ) (r : StockRow) → stock_at (finmap.insert rows (order_key o) r) i ≡ stock_at rows i
 stock-order rows o i r = ap (λ (x : Option StockRow). stock_of (as_item x)) (finmap.get-insert key_cmp_total rows (order_key o) r (item_key i))
-
-either : (a b : Bool) → (a || b) ≡ false → (a ≡ false) × (b ≡ false)
-either true b h = absurd (false≢true (sym h))
-either false b h = (refl, h)
 
 eq_turned : (a b : ℕ) → (a == b) ≡ (b == a)
 eq_turned a b = grind (arith, nat_tests)
@@ -101,7 +88,7 @@ Enough v (l ∷ ls) rows = ((stock_at rows l.item ≡ stock_at v l.item) × (l.p
 enough_insert : (v : Rows StockRow) (ls : List Line) (rows : Rows StockRow) (j : ℕ) (x : Item) → names_item ls j ≡ false → Enough v ls rows → Enough v ls (finmap.insert rows (item_key j) (row.Item x))
 enough_insert v [] rows j x other h = tt
 enough_insert v (l ∷ ls) rows j x other h =
-    let here = either (l.item == j) (names_item ls j) other in
+    let here = or_parts (l.item == j) (names_item ls j) other in
     ((stock-insert rows j l.item x ∙ ap (λ b. if b then x.stock else stock_at rows l.item) here.0 ∙ h.0.0, h.0.1), enough_insert v ls rows j x here.1 h.1)
 
 left_of : (l : Line) (found : Option Item) → (left l found).stock ≡ stock_of found - l.pieces
@@ -113,7 +100,7 @@ lines_take : (v : Rows StockRow) (i : ℕ) (ls : List Line) (rows : Rows StockRo
 lines_take v i [] rows once h = omega arith
 lines_take v i (l ∷ ls) rows once h =
     let x = left l (item_at v l.item) in
-    let others = not_true _ (first _ _ once) in
+    let others = not-true _ (first _ _ once) in
     let rest = lines_take v i ls (finmap.insert rows (item_key l.item) (row.Item x)) (second (not (names_item ls l.item)) _ once) (enough_insert v ls rows l.item x others h.1) in
     let put = stock-insert rows l.item i x in
     one (i == l.item) refl (rest ∙ put) where
@@ -133,7 +120,7 @@ has_enough l (Some item) rest h = go (nat_lt item.stock l.pieces) refl h where
   go true is h = absurd (cc)
   go false is h = ltb-false item.stock l.pieces is
 
-all_enough : (v rows : Rows StockRow) (ls : List Line) → ((k : Key) → has (item_keys ls) k ≡ true → finmap.get v k ≡ finmap.get rows k) → first_fault ls v ≡ None → Enough v ls rows
+all_enough : (v rows : Rows StockRow) (ls : List Line) → IsSeen v rows (item_keys ls) → first_fault ls v ≡ None → Enough v ls rows
 all_enough v rows [] same h = tt
 all_enough v rows (l ∷ ls) same h = (
   (ap (λ (x : Option StockRow). stock_of (as_item x)) (sym (same (item_key l.item) (ap (λ b. b || has (item_keys ls) (item_key l.item)) (same_key-self (item_key l.item))))), has_enough l (item_at v l.item) (first_fault ls v) h),
@@ -147,7 +134,7 @@ placed_takes i o v rows c total enough = elim (nat_lt MOST_CENTS total) as (λ b
       let after = overwritten rows (map (taken v) o.lines) in
       let order_row = row.Order (record { customer = o.customer; total = total; settled = false }) in
       let customer_row = row.Customer (record { balance = c.balance; last_order = Some o.number }) in
-      let lines = lines_take v i o.lines rows (second _ _ o.in_range) enough in
+      let lines = lines_take v i o.lines rows (second (are_in_range o.lines) (has_distinct_items o.lines) o.in_range) enough in
       let one = stock-order after o.number i order_row in
       let two = stock-customer (finmap.insert after (order_key o.number) order_row) o.customer i customer_row in
       let all = ap (λ (x : Rows StockRow). stock_at x i) (overwritten-append (map (taken v) o.lines) ((order_key o.number, order_row) ∷ (customer_key o.customer, customer_row) ∷ []) rows) in
@@ -169,7 +156,7 @@ unordered i o v (l ∷ ls) fault h = elim (line_fault l (item_at v l.item)) as (
   | Some x ↦ λ is h. line_unordered i o l (item_at v l.item) fault (is ∙ h)
 ] refl h
 
-place_takes : (i : ℕ) (o : Order) (v rows : Rows StockRow) (found : Option Customer) → ((k : Key) → has (order_keys o) k ≡ true → finmap.get v k ≡ finmap.get rows k) → KeepsPieces i (request.Order o) rows (place o v found)
+place_takes : (i : ℕ) (o : Order) (v rows : Rows StockRow) (found : Option Customer) → IsSeen v rows (order_keys o) → KeepsPieces i (request.Order o) rows (place o v found)
 place_takes i o v rows None same = refl
 place_takes i o v rows (Some c) same = elim (is_some (finmap.get v (order_key o.number))) as (λ b. KeepsPieces i (request.Order o) rows (if b then told OrderExists else unless_fault (first_fault o.lines v) (placed o v c (total_of o.lines v)))) [
   | true ↦ refl
@@ -213,19 +200,12 @@ balance_takes : (i u : ℕ) (rows : Rows StockRow) (found : Option Customer) →
 balance_takes i u rows None = refl
 balance_takes i u rows (Some c) = refl
 
--- ---- one step, and a list
+-- ---- whatever is asked
 
--- on a view that has the rows at the keys that are needed
-unfoldable KeepsPiecesOnViews : ℕ → StockRequest → Type 0
-KeepsPiecesOnViews i a = (rows v : Rows StockRow) → ((k : Key) → has (needs_of a v).reads k ≡ true → finmap.get v k ≡ finmap.get rows k) → KeepsPieces i a rows (outcome_of a v)
-
-one_key : (k : Key) → has (k ∷ []) k ≡ true
-one_key k = ap (λ b. b || false) (same_key-self k)
-
-takes : (i : ℕ) (a : StockRequest) → KeepsPiecesOnViews i a
-unfolding KeepsPiecesOnViews
-takes i (request.AddItem j s c) rows v same = add_item_keeps i j s c rows (finmap.get v (item_key j)) (sym (same (item_key j) (one_key (item_key j))))
-takes i (request.Restock j s) rows v same = restock_keeps i j s rows (finmap.get v (item_key j)) (sym (same (item_key j) (one_key (item_key j))))
+takes : (i : ℕ) (a : StockRequest) → FlowsSeen (λ rows. stock_at rows i) (added_one i) (ordered_one i) a
+unfolding FlowsSeen
+takes i (request.AddItem j s c) rows v same = add_item_keeps i j s c rows (finmap.get v (item_key j)) (sym (same (item_key j) (has-alone (item_key j))))
+takes i (request.Restock j s) rows v same = restock_keeps i j s rows (finmap.get v (item_key j)) (sym (same (item_key j) (has-alone (item_key j))))
 takes i (request.Open u) rows v same = open_takes i u rows (finmap.get v (customer_key u))
 takes i (request.PayIn u c) rows v same = pay_in_takes i u c rows (as_customer (finmap.get v (customer_key u)))
 takes i (request.Order o) rows v same = place_takes i o v rows (as_customer (finmap.get v (customer_key o.customer))) same
@@ -233,31 +213,15 @@ takes i (request.Settle u) rows v same = settle_takes i u rows v (as_customer (f
 takes i (request.Balance u) rows v same = balance_takes i u rows (as_customer (finmap.get v (customer_key u)))
 
 -- nothing is added or ordered where sets have changed
-untouched : (i : ℕ) (a : StockRequest) (n : ℕ) → n + added_one i a answer.Changed ≡ n + ordered_one i a answer.Changed
-untouched i (request.AddItem j s c) n = refl
-untouched i (request.Restock j s) n = refl
-untouched i (request.Order o) n = refl
-untouched i _ n = refl
-
-step_takes : (i : ℕ) (t : Txn StockRequest) (rows : Rows StockRow) → KeepsPiecesOnViews i t.args → stock_at rows i + added_one i t.args (answer_one stock t rows) ≡ stock_at (after_one stock t rows) i + ordered_one i t.args (answer_one stock t rows)
-unfolding KeepsPiecesOnViews answer_on writes_on
-step_takes i t rows keeps = go (is_current stock t (view rows t.sets.reads)) refl where
-  go : (b : Bool) → is_current stock t (view rows t.sets.reads) ≡ b
-      → stock_at rows i + added_one i t.args (if b then answer.Reply (outcome_of t.args (view rows t.sets.reads)).0 else answer.Changed)
-      ≡ stock_at (overwritten rows (if b then (outcome_of t.args (view rows t.sets.reads)).1 else [])) i + ordered_one i t.args (if b then answer.Reply (outcome_of t.args (view rows t.sets.reads)).0 else answer.Changed)
-  go true is = keeps rows (view rows t.sets.reads) (λ k there. get-seen rows t.sets.reads k (ap (λ (s : Sets). has s.reads k) (sym (same_sets_exact (needs_of t.args (view rows t.sets.reads)) t.sets is)) ∙ there))
-  go false is = untouched i t.args (stock_at rows i)
-
-pieces_keep : (i : ℕ) (ts : List (Txn StockRequest)) (rows : Rows StockRow) → stock_at rows i + added i ts (serial stock ts rows).1 ≡ stock_at (serial stock ts rows).0 i + ordered i ts (serial stock ts rows).1
-pieces_keep i [] rows = refl
-pieces_keep i (t ∷ ts) rows =
-    let rest = pieces_keep i ts (after_one stock t rows) in
-    let one = step_takes i t rows (takes i t.args) in
-    omega (arith, rest, one)
+idle : (i : ℕ) (a : StockRequest) → added_one i a answer.Changed ≡ ordered_one i a answer.Changed
+idle i (request.AddItem j s c) = refl
+idle i (request.Restock j s) = refl
+idle i (request.Order o) = refl
+idle i _ = refl
 
 -- the pieces that were added are there or were ordered, after every list from no rows
 pub pieces_hold : (i : ℕ) (ts : List (Txn StockRequest)) → added i ts (serial stock ts finmap.empty).1 ≡ stock_at (serial stock ts finmap.empty).0 i + ordered i ts (serial stock ts finmap.empty).1
 pieces_hold i ts =
     let none = ap (λ (x : Option StockRow). stock_of (as_item x)) (finmap.get-empty key_cmp (item_key i)) in
-    let all = pieces_keep i ts finmap.empty in
+    let all = all_flow (λ rows. stock_at rows i) (added_one i) (ordered_one i) (takes i) (idle i) ts finmap.empty in
     omega (arith, none, all)

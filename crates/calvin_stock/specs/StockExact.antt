@@ -1,4 +1,7 @@
 -- Requests, rows and replies of Stock that compare equal are the same.
+--     rows_exact      rows
+--     requests_exact      requests
+--     replies_exact      replies
 use Rattle.std.specs.Prelude.{◌≡◌, ℕ, Bool, true, false, List, IsTrue, refl}
 use Rattle.std.proofs.Common.{ap, ◌∙◌, subst}
 use Rattle.std.proofs.Props.{props}
@@ -29,9 +32,11 @@ use Rattle.calvin_stock.specs.contracts.rows.StockRowPartialEq.TheImpl as row_im
 line_exact : (a b : Line) → line_impl.ghosts.eq a b ≡ true → a ≡ b
 line_exact a b h = λ i. record { item = eqb-true a.item b.item (first _ _ h) i; pieces = eqb-true a.pieces b.pieces (second _ _ h) i }
 
+-- that a test holds is so in one way only
 true_once : (b : Bool) → IsProp (IsTrue b)
 true_once b = hlevel props
 
+-- orders of the same lines are the same
 same_lines : (c o : ℕ) (ls ms : List Line) → ls ≡ ms → (p : IsTrue (are_lines ls)) → (q : IsTrue (are_lines ms)) → ◌≡◌ {A = Order} (record { customer = c; number = o; lines = ls; in_range = p }) (record { customer = c; number = o; lines = ms; in_range = q })
 same_lines c o ls ms e p = subst (λ (ns : List Line). (q : IsTrue (are_lines ns)) → ◌≡◌ {A = Order} (record { customer = c; number = o; lines = ls; in_range = p }) (record { customer = c; number = o; lines = ns; in_range = q })) e
     (λ q i. record { customer = c; number = o; lines = ls; in_range = true_once (are_lines ls) p q i })

@@ -1,9 +1,14 @@
--- The totals of Stock: what was paid in is there, and so are the pieces.
---     cents_in rows      the cents of all balances and of the totals of all settled orders
---     paid list answers      the cents of all payments answered Done
+-- The totals of Stock: what was paid in is there, and so are the pieces, or they were ordered.
+--     cents_of r      the cents of a row: a customer's balance, a settled order's total
+--     cents_in rows      all balances, and the totals of all settled orders
 --     stock_at rows i      the pieces of the item i in stock
---     added i list answers, ordered i list answers      the pieces that were added;  those of lines in orders that were answered Ordered
+--     pieces_of i lines      the pieces of the lines of the item i
+--     along one list answers      what each request of a list comes to by its answer, together
+--     paid list answers      the cents of all payments that were answered Done
+--     added i list answers      the pieces of the item i that were added, answered Done
+--     ordered i list answers      the pieces of its lines in orders that were answered Ordered
 use Rattle.std.specs.Prelude.{ℕ, ◌+◌, ◌==◌, if◌then◌else◌, List, [], ◌∷◌, Option, Some, None}
+use Rattle.std.specs.List.{sum_by}
 use Rattle.std.specs.FinMap.{entries}
 use Rattle.calvin_types.specs.declared.key.Key.{Key}
 use Rattle.calvin_types.specs.declared.txn.Txn.{Txn}
@@ -26,12 +31,9 @@ cents_of (row.Customer c) = c.balance
 cents_of (row.Order p) = if p.settled then p.total else 0
 cents_of (row.Item i) = 0
 
-abbrev pub cents_of_all : List (Key × StockRow) → ℕ
-cents_of_all [] = 0
-cents_of_all (e ∷ es) = cents_of e.1 + cents_of_all es
-
+-- all balances, and the totals of all settled orders
 abbrev pub cents_in : Rows StockRow → ℕ
-cents_in rows = cents_of_all (entries rows)
+cents_in rows = sum_by (λ (e : Key × StockRow). cents_of e.1) (entries rows)
 
 -- the pieces of an item in stock
 abbrev pub stock_of : Option Item → ℕ
@@ -41,12 +43,12 @@ stock_of (Some i) = i.stock
 abbrev pub stock_at : Rows StockRow → ℕ → ℕ
 stock_at rows i = stock_of (item_at rows i)
 
--- the pieces of an item's lines
+-- the pieces of the lines of an item
 abbrev pub pieces_of : ℕ → List Line → ℕ
 pieces_of i [] = 0
 pieces_of i (l ∷ ls) = (if l.item == i then l.pieces else 0) + pieces_of i ls
 
--- what one request pays, adds and takes, where it was answered so
+-- what one request pays, adds and orders, where it was answered so
 abbrev pub paid_one : StockRequest → Answer StockReply → ℕ
 paid_one (request.PayIn u c) (answer.Reply Done) = c
 paid_one a b = 0
@@ -60,7 +62,7 @@ abbrev pub ordered_one : ℕ → StockRequest → Answer StockReply → ℕ
 ordered_one i (request.Order o) (answer.Reply (Ordered total)) = pieces_of i o.lines
 ordered_one i a b = 0
 
--- what each request comes to, along a list and its answers
+-- what each request of a list comes to by its answer, together
 abbrev pub along : (StockRequest → Answer StockReply → ℕ) → List (Txn StockRequest) → List (Answer StockReply) → ℕ
 along one [] answers = 0
 along one (t ∷ ts) [] = 0

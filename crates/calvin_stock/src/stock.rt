@@ -35,6 +35,7 @@ impl App for Stock {
 
     ghost table_limit = { 3 };
 
+    // Four items, the order and its customer.
     fn most_keys(&self) -> usize {
         6
     }
