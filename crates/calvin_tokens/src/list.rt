@@ -36,6 +36,9 @@ pub(crate) fn list_of<T: Piece>(alloc: Global, reader: &mut Reader<'_>) -> Optio
         (map T.meaning v.items) reader.new) }
 {
     opens_array(reader)?;
+    if ends_array(reader) {
+        return Some(Vec::new(alloc));
+    }
     let mut found = Vec::with_capacity(alloc, T::first_room()).ok()?;
     'items: while !ends_array(reader) {
         T::push_tokens(alloc, reader, &mut found)?;

@@ -11,6 +11,7 @@ use fast_float::Numeral;
 use json::{Reader, Token};
 
 /// The number that at most 19 digits write.
+#[inline(always)]
 fn short_digits(bytes: &[u8]) -> Option<u64>
     requires { length bytes.now ≤ 19 }
     ensures { IfSome result (λ n. AllDigits 10 bytes.now × (n ≡ digits_value 10 bytes.now)) }
@@ -26,6 +27,7 @@ fn short_digits(bytes: &[u8]) -> Option<u64>
 }
 
 /// The number that a text writes in digits alone, below 2^64.
+#[inline(always)]
 #[tactic(auto, unfolding(serde_json::specs::Read::number_of), using(crate::proofs::Digits::short_number))]
 fn digits_of(text: &str) -> Option<u64>
     ensures { IfSome result (λ n. number_of text.now ≡ Some (unsigned n)) }
@@ -41,6 +43,7 @@ fn digits_of(text: &str) -> Option<u64>
 }
 
 /// A whole number below 2^64, written in digits alone, where it is next.
+#[inline(always)]
 #[tactic(auto, using(crate::proofs::Steps::number_reads))]
 pub fn number(reader: &mut Reader<'_>) -> Option<u64>
     ensures { IfSome result (λ n. Reads 0 reader.old (number (unsigned n)) reader.new) }
@@ -93,6 +96,7 @@ pub(crate) fn between(least: u8, most: u8, reader: &mut Reader<'_>) -> Option<u8
 }
 
 /// Takes the bracket that opens an array, where it is next.
+#[inline(always)]
 pub fn opens_array(reader: &mut Reader<'_>) -> Option<()>
     ensures { OnSome result (reader.old ≡ token.begin_array ∷ reader.new) }
 {
@@ -103,6 +107,7 @@ pub fn opens_array(reader: &mut Reader<'_>) -> Option<()>
 }
 
 /// Takes the brace that opens an object, where it is next.
+#[inline(always)]
 pub(crate) fn opens_object(reader: &mut Reader<'_>) -> Option<()>
     ensures { OnSome result (reader.old ≡ token.begin_object ∷ reader.new) }
 {
@@ -113,6 +118,7 @@ pub(crate) fn opens_object(reader: &mut Reader<'_>) -> Option<()>
 }
 
 /// Whether an array ends here; then its bracket is taken.
+#[inline(always)]
 #[tactic(auto, using(json::proofs::Grammar::closed_array))]
 pub(crate) fn ends_array(reader: &mut Reader<'_>) -> bool
     ensures ended { IsTrue result → reader.old ≡ token.end_array ∷ reader.new }
@@ -122,6 +128,7 @@ pub(crate) fn ends_array(reader: &mut Reader<'_>) -> bool
 }
 
 /// Takes the bracket that closes an array, where it is next.
+#[inline(always)]
 pub fn closes_array(reader: &mut Reader<'_>) -> Option<()>
     ensures { OnSome result (reader.old ≡ token.end_array ∷ reader.new) }
 {
@@ -129,6 +136,7 @@ pub fn closes_array(reader: &mut Reader<'_>) -> Option<()>
 }
 
 /// Whether two texts are one.
+#[inline(always)]
 pub fn is_same(text: &str, other: &str) -> bool
     ensures { IsTrue result → text.now ≡ other.now }
 {
@@ -136,6 +144,7 @@ pub fn is_same(text: &str, other: &str) -> bool
 }
 
 /// A string, where it is next.
+#[inline(always)]
 pub fn string_at<'a>(reader: &mut Reader<'a>) -> Option<&'a str>
     ensures { IfSome result (λ text. reader.old ≡ token.string text.now ∷ reader.new) }
 {
@@ -146,6 +155,7 @@ pub fn string_at<'a>(reader: &mut Reader<'a>) -> Option<&'a str>
 }
 
 /// The name of a member, or none at the brace that closes its object.
+#[inline(always)]
 pub(crate) fn key_at<'a>(reader: &mut Reader<'a>) -> Option<Option<&'a str>>
     ensures { IfSome result (λ k. reader.old ≡ key_or_end (option_map (λ name. name.now) k) ∷ reader.new) }
 {
