@@ -3,3 +3,4 @@ pub mod Json
 pub mod KeySets
 pub mod Names
 pub mod Apps
+pub mod OrderLines

@@ -1,5 +1,4 @@
 -- The operations of the application Kv as they are written.
---     one_number d, two_numbers d, three_numbers d      the numbers that follow the name of an operation, and nothing after them
 --     put d, get_of d, add d, move_of d, follow_of d      each operation
 --     kv_operation d      one of them
 --     kv_grammar      Kv's name, its operations, and the sets of each on the empty view; declared sets are complete
@@ -12,31 +11,13 @@ use Rattle.calvin_app.specs.declared.kv.KvRequest.{KvRequest}
 use Rattle.calvin_app.specs.declared.kv.KvRequest.TheVariants.{Put, Get, Add, Move, Follow}
 use Rattle.calvin_app.specs.Kv.{kv, key_of}
 use Rattle.calvin_script.specs.Spelling.{◌>>=◌, only_if, below}
+use Rattle.calvin_script.specs.Numbers.{one_number, two_numbers, three_numbers}
 use Rattle.calvin_script.specs.KeyLists.{key_set}
 use Rattle.calvin_script.specs.Grammar.{Grammar, as_declared}
 
 -- a key of table 0, written as its number there
 abbrev pub row_key : Data → Option Key
 row_key d = option_map key_of (below (2 ^ 64) d)
-
--- the number that follows the name of an operation, and nothing after it
-unfoldable pub one_number : Data → Option ℕ
-one_number d = only_if (is_none (at 2 d)) (option_and_then (below (2 ^ 64)) (at 1 d))
-
--- the two numbers that follow the name of an operation, and nothing after them
-unfoldable pub two_numbers : Data → Option (ℕ × ℕ)
-two_numbers d = only_if (is_none (at 3 d)) (do
-  first ← option_and_then (below (2 ^ 64)) (at 1 d)
-  second ← option_and_then (below (2 ^ 64)) (at 2 d)
-  Some (first, second))
-
--- the three numbers that follow the name of an operation, and nothing after them
-unfoldable pub three_numbers : Data → Option (ℕ × ℕ × ℕ)
-three_numbers d = only_if (is_none (at 4 d)) (do
-  first ← option_and_then (below (2 ^ 64)) (at 1 d)
-  second ← option_and_then (below (2 ^ 64)) (at 2 d)
-  third ← option_and_then (below (2 ^ 64)) (at 3 d)
-  Some (first, second, third))
 
 -- `["put",k,v]`
 unfoldable pub put : Data → Option KvRequest

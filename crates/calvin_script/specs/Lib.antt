@@ -7,3 +7,5 @@ pub mod Scripts
 pub mod Gives
 pub mod Reading
 pub mod KvOperations
+pub mod Numbers
+pub mod StockOperations

@@ -2,10 +2,11 @@
 ghost use Rattle.std.specs.Prelude.{◌≡◌, [], option_map};
 ghost use Rattle.serde_json.specs.View.{view};
 ghost use Rattle.calvin_app.specs.declared.kv.KvRequest.TheVariants.{Get};
-ghost use Rattle.calvin_script.specs.KvOperations.{one_number, two_numbers, three_numbers, get_of};
+ghost use Rattle.calvin_script.specs.KvOperations.{get_of};
 
 use crate::fields::u64_of;
 use crate::key_list::{KeyForm, read_key_set};
+use crate::numbers::{one_number, three_numbers, two_numbers};
 use crate::operation::Operation;
 use calvin_app::KvRequest;
 use calvin_types::{Key, KeySet, RequestId, Sets};
@@ -23,44 +24,6 @@ impl KeyForm for RowNumber {
         let id = u64_of(value)?;
         Some(Key { table: 0, id })
     }
-}
-
-/// The number that follows the name of an operation.
-#[tactic(auto, unfolding(crate::specs::KvOperations::one_number))]
-fn one_number(value: &Value) -> Option<u64>
-    ensures { result ≡ one_number (view value.now) }
-{
-    if value.get(2).is_some() {
-        return None;
-    }
-    u64_of(value.get(1)?)
-}
-
-/// The two numbers that follow the name of an operation.
-#[tactic(auto, unfolding(crate::specs::KvOperations::two_numbers))]
-fn two_numbers(value: &Value) -> Option<(u64, u64)>
-    ensures { result ≡ two_numbers (view value.now) }
-{
-    if value.get(3).is_some() {
-        return None;
-    }
-    let first = u64_of(value.get(1)?)?;
-    let second = u64_of(value.get(2)?)?;
-    Some((first, second))
-}
-
-/// The three numbers that follow the name of an operation.
-#[tactic(auto, unfolding(crate::specs::KvOperations::three_numbers))]
-fn three_numbers(value: &Value) -> Option<(u64, u64, u64)>
-    ensures { result ≡ three_numbers (view value.now) }
-{
-    if value.get(4).is_some() {
-        return None;
-    }
-    let first = u64_of(value.get(1)?)?;
-    let second = u64_of(value.get(2)?)?;
-    let third = u64_of(value.get(3)?)?;
-    Some((first, second, third))
 }
 
 /// The keys of a get.

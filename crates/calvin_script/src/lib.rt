@@ -8,10 +8,12 @@ mod key_list;
 mod kv;
 mod list;
 mod members;
+mod numbers;
 mod operation;
 mod reading;
 mod request;
 mod script;
+mod stock;
 
 pub use contents::{Epoch, GroupBatch, Request, Script};
 pub use key_list::{KeyForm, WholeKey, read_key_set};

@@ -10,6 +10,7 @@ use crate::list::ScriptError;
 use crate::operation::Operation;
 use crate::script::script_of;
 use calvin_app::KvRequest;
+use calvin_stock::StockRequest;
 use calvin_types::Fault;
 use serde_json::{Category, Value};
 use std::alloc::Global;
@@ -17,7 +18,10 @@ use std::alloc::Global;
 /// The applications that scripts can name.
 #[derive(Clone, Copy, Debug, PartialEq, Eq)]
 pub enum AppName {
+    /// Numbers by key.
     Kv,
+    /// Customers, items and orders.
+    Stock,
 }
 
 /// A piece of JSON that may be a script. Its application has to be known before the rest of it can be read.
@@ -48,6 +52,9 @@ impl Document {
         let name = self.value.get("app")?.as_str()?;
         if name == KvRequest::app_name() {
             return Some(AppName::Kv);
+        }
+        if name == StockRequest::app_name() {
+            return Some(AppName::Stock);
         }
         None
     }

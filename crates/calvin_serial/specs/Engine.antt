@@ -16,15 +16,17 @@ use Rattle.calvin_edge.specs.declared.reading.TheConstants.{MOST_BYTES}
 use Rattle.calvin_app.specs.Meaning.{Meaning}
 use Rattle.calvin_app.specs.Serial.{serial}
 use Rattle.calvin_app.specs.Kv.{kv}
+use Rattle.calvin_stock.specs.Stock.{stock}
 use Rattle.calvin_order.specs.Merged.{order}
 use Rattle.calvin_script.specs.Scripts.{Contents, batch_at}
 use Rattle.calvin_script.specs.declared.reading.AppName.{AppName}
-use Rattle.calvin_script.specs.declared.reading.AppName.TheVariants.{Kv}
+use Rattle.calvin_script.specs.declared.reading.AppName.TheVariants.{Kv, Stock}
 use Rattle.calvin_script.specs.Documents.{Json, app_of, script_in}
 use Rattle.calvin_script.specs.Grammar.{Grammar}
 use Rattle.calvin_script.specs.Reading.{and_then, json}
 use Rattle.calvin_script.specs.KvOperations.{kv_grammar}
-use Rattle.calvin_text.specs.Texts.{kv_text, lines, finished}
+use Rattle.calvin_script.specs.StockOperations.{stock_grammar}
+use Rattle.calvin_text.specs.Texts.{kv_text, stock_text, lines, finished}
 
 -- the merged order of all the script's epochs, run one at a time on no rows: a line for each request, and then the last epoch
 abbrev pub text_of : {Args Row Reply : Type 0} → Meaning Args Row Reply → (Reply → List ℕ) → Contents Args → List ℕ
@@ -38,6 +40,7 @@ text_for m grammar show d = and_then (script_in grammar d) (λ script. Ok (text_
 abbrev pub text_by : Option AppName → Json → Result (List ℕ) Fault
 text_by None d = Err BadScript
 text_by (Some Kv) d = text_for kv kv_grammar kv_text d
+text_by (Some Stock) d = text_for stock stock_grammar stock_text d
 
 abbrev pub text_in : Json → Result (List ℕ) Fault
 text_in d = text_by (app_of d) d

@@ -14,6 +14,7 @@ use crate::text::push_epoch;
 use calvin_app::{Answer, App, Kv, Serial, View};
 use calvin_edge::{MOST_BYTES, Sink, Source, read_all, write_all};
 use calvin_script::{AppName, Document, Operation, Script};
+use calvin_stock::Stock;
 use calvin_text::{Printed, push_finished};
 use calvin_tokens::usual_script;
 use calvin_types::Fault;
@@ -59,6 +60,7 @@ fn answer(alloc: Global, bytes: &[u8]) -> Result<Vec<u8>, Fault>
     let document = Document::read(alloc, bytes)?;
     match document.app() {
         Some(AppName::Kv) => answer_for(alloc, Kv, document),
+        Some(AppName::Stock) => answer_for(alloc, Stock, document),
         None => Err(Fault::BadScript),
     }
 }

@@ -1,6 +1,6 @@
 -- What is written of answers.
 --     place_text p, id_text id      `epoch.n` and `client:number`
---     kv_text reply      a reply of Kv
+--     kv_text reply, stock_text reply      a reply of Kv, a reply of Stock
 --     line show p id answer      `epoch.n client:number answer`
 --     lines show order answers      a line for each request with its answer
 --     finished n      the last of n epochs
@@ -13,6 +13,8 @@ use Rattle.calvin_app.specs.declared.answer.Answer.{Answer}
 use Rattle.calvin_app.specs.declared.answer.Answer.TheVariants as answer
 use Rattle.calvin_app.specs.declared.kv.KvReply.{KvReply}
 use Rattle.calvin_app.specs.declared.kv.KvReply.TheVariants as reply
+use Rattle.calvin_stock.specs.declared.reply.StockReply.{StockReply}
+use Rattle.calvin_stock.specs.declared.reply.StockReply.TheVariants as told
 
 abbrev pub place_text : Place → List ℕ
 place_text p = decimal p.epoch ++ codes "." ++ decimal p.n
@@ -37,6 +39,20 @@ kv_text reply.Short = codes "short"
 kv_text (reply.Value sum) = value_text (Some sum)
 kv_text (reply.Values values) = values_text values
 kv_text (reply.Found value) = value_text value
+
+abbrev pub stock_text : StockReply → List ℕ
+stock_text told.Done = codes "done"
+stock_text told.Limit = codes "limit"
+stock_text told.Exists = codes "exists"
+stock_text told.NoItem = codes "noitem"
+stock_text told.NoCustomer = codes "nocustomer"
+stock_text told.OrderExists = codes "orderexists"
+stock_text told.Short = codes "short"
+stock_text (told.Ordered total) = codes "ordered " ++ decimal total
+stock_text told.NothingOpen = codes "nothingopen"
+stock_text told.Poor = codes "poor"
+stock_text (told.Settled total) = codes "settled " ++ decimal total
+stock_text (told.Cents balance) = codes "cents " ++ decimal balance
 
 module _ {Reply : Type 0} (show : Reply → List ℕ) where
   abbrev pub answer_text : Answer Reply → List ℕ

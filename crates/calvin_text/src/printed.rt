@@ -1,8 +1,9 @@
 //! What is written of an answer.
 ghost use Rattle.std.specs.Prelude.{◌≡◌, ◌++◌, ℕ, List, OnOk, codes, decimal};
-ghost use Rattle.calvin_text.specs.Texts.{value_text, values_text, kv_text};
+ghost use Rattle.calvin_text.specs.Texts.{value_text, values_text, kv_text, stock_text};
 
 use calvin_app::KvReply;
+use calvin_stock::StockReply;
 use calvin_types::Few;
 use itoa::Buffer;
 use std::alloc::AllocError;
@@ -83,6 +84,37 @@ impl Printed for KvReply {
             KvReply::Value(sum) => push_value(text, Some(*sum)),
             KvReply::Values(values) => push_values(text, values),
             KvReply::Found(value) => push_value(text, *value),
+        }
+    }
+}
+
+/// Adds a word, a space and a number.
+fn push_amount(text: &mut Vec<u8>, word: &str, amount: u64) -> Result<(), AllocError>
+    ensures { OnOk result (text.new.items ≡ text.old.items ++ word.now ++ codes " " ++ decimal amount) }
+{
+    text.extend_from_slice(word.as_bytes())?;
+    text.push(b' ')?;
+    push_number(text, amount)?;
+    Ok(())
+}
+
+impl Printed for StockReply {
+    ghost printed = { stock_text };
+
+    fn push_to(&self, text: &mut Vec<u8>) -> Result<(), AllocError> {
+        match self {
+            StockReply::Done => text.extend_from_slice(b"done"),
+            StockReply::Limit => text.extend_from_slice(b"limit"),
+            StockReply::Exists => text.extend_from_slice(b"exists"),
+            StockReply::NoItem => text.extend_from_slice(b"noitem"),
+            StockReply::NoCustomer => text.extend_from_slice(b"nocustomer"),
+            StockReply::OrderExists => text.extend_from_slice(b"orderexists"),
+            StockReply::Short => text.extend_from_slice(b"short"),
+            StockReply::Ordered(total) => push_amount(text, "ordered", *total),
+            StockReply::NothingOpen => text.extend_from_slice(b"nothingopen"),
+            StockReply::Poor => text.extend_from_slice(b"poor"),
+            StockReply::Settled(total) => push_amount(text, "settled", *total),
+            StockReply::Cents(balance) => push_amount(text, "cents", *balance),
         }
     }
 }

@@ -7,7 +7,8 @@ use Rattle.calvin_app.specs.Kv.{key_of}
 use Rattle.calvin_app.specs.declared.kv.KvRequest.TheVariants.{Put, Get, Add, Move, Follow}
 use Rattle.calvin_script.specs.Spelling.{below}
 use Rattle.calvin_script.specs.KeyLists.{key, key_set}
-use Rattle.calvin_script.specs.KvOperations.{row_key, one_number, two_numbers, three_numbers, put, get_of, add, move_of, follow_of, kv_operation}
+use Rattle.calvin_script.specs.Numbers.{one_number, two_numbers, three_numbers}
+use Rattle.calvin_script.specs.KvOperations.{row_key, put, get_of, add, move_of, follow_of, kv_operation}
 use Rattle.calvin_tokens.specs.Spelled.{Reads, ReadsItems, Spells}
 use Rattle.calvin_tokens.proofs.Steps.{string_reads, items_end, items_more, array_reads, deeper}
 
