@@ -55,7 +55,86 @@ class Kv:
         return value(row((0, args[0]))), {}
 
 
-APPS = {"kv": Kv}
+MOST_PIECES = 10**9
+MOST_CENTS = 10**15
+
+
+class Stock:
+    """Customers, items and orders: rows of tables 1, 2 and 3, each a tuple."""
+
+    @staticmethod
+    def needs(op, row):
+        name, *args = op
+        if name in ("additem", "restock"):
+            keys = [(2, args[0])]
+        elif name == "order":
+            keys = sorted([(1, args[0]), (3, args[1])] + [(2, item) for item, _ in args[2]])
+        else:
+            keys = [(1, args[0])]
+        if name == "settle":
+            customer = row((1, args[0]))
+            if customer and customer[1] is not None:
+                keys.append((3, customer[1]))
+        return keys, [] if name == "balance" else keys
+
+    @staticmethod
+    def run(op, row):
+        name, *args = op
+        if name in ("additem", "restock"):
+            return Stock.run_item(name, args, row((2, args[0])))
+        if name == "open":
+            return ("exists", {}) if row((1, args[0])) else ("done", {(1, args[0]): (0, None)})
+        customer = row((1, args[0]))
+        if customer is None:
+            return "nocustomer", {}
+        if name == "order":
+            return Stock.run_order(args, customer, row)
+        balance, last = customer
+        if name == "payin":
+            if balance + args[1] > MOST_CENTS:
+                return "limit", {}
+            return "done", {(1, args[0]): (balance + args[1], last)}
+        if name == "balance":
+            return f"cents {balance}", {}
+        order = None if last is None else row((3, last))
+        if order is None or order[2]:
+            return "nothingopen", {}
+        if order[1] > balance:
+            return "poor", {}
+        return f"settled {order[1]}", {(1, args[0]): (balance - order[1], last), (3, last): (order[0], order[1], True)}
+
+    @staticmethod
+    def run_item(name, args, item):
+        if name == "additem":
+            if args[1] > MOST_PIECES or args[2] > MOST_CENTS:
+                return "limit", {}
+            return ("exists", {}) if item else ("done", {(2, args[0]): (args[1], args[2])})
+        if item is None:
+            return "noitem", {}
+        if item[0] + args[1] > MOST_PIECES:
+            return "limit", {}
+        return "done", {(2, args[0]): (item[0] + args[1], item[1])}
+
+    @staticmethod
+    def run_order(args, customer, row):
+        number, lines = args[1:]
+        if row((3, number)):
+            return "orderexists", {}
+        total, written = 0, {}
+        for item, pieces in lines:
+            found = row((2, item))
+            if found is None:
+                return "noitem", {}
+            if found[0] < pieces:
+                return "short", {}
+            total += pieces * found[1]
+            written[2, item] = (found[0] - pieces, found[1])
+        if total > MOST_CENTS:
+            return "limit", {}
+        return f"ordered {total}", {**written, (3, number): (args[0], total, False), (1, args[0]): (customer[0], number)}
+
+
+APPS = {"kv": Kv, "stock": Stock}
 
 
 class Run:
