@@ -50,14 +50,16 @@ where
 }
 
 /// The text for the bytes of a script, for the application that it names. A script that is written as usual is read
-/// without its JSON as a value.
-fn answer(alloc: Global, bytes: &[u8]) -> Result<Vec<u8>, Fault>
-    ensures { Reads (λ text. text.items) result (and_then (json bytes.now) text_in) }
+/// without its JSON as a value. The bytes are given back before the script is run.
+fn answer(alloc: Global, bytes: Vec<u8>) -> Result<Vec<u8>, Fault>
+    ensures { Reads (λ text. text.items) result (and_then (json bytes.items) text_in) }
 {
-    if let Some(script) = usual_script(alloc, bytes) {
+    if let Some(script) = usual_script(alloc, &bytes) {
+        drop(bytes);
         return text_of(alloc, Kv, &script);
     }
-    let document = Document::read(alloc, bytes)?;
+    let document = Document::read(alloc, &bytes)?;
+    drop(bytes);
     match document.app() {
         Some(AppName::Kv) => answer_for(alloc, Kv, document),
         Some(AppName::Stock) => answer_for(alloc, Stock, document),
@@ -96,7 +98,7 @@ pub fn serial<S: Source, K: Sink>(alloc: Global, source: &mut S, sink: &mut K) -
         → K.failures sink.new ≡ K.failures sink.old }
 {
     let bytes = read_all(alloc, source)?;
-    let text = answer(alloc, &bytes)?;
+    let text = answer(alloc, bytes)?;
     write_all(sink, &text)?;
     Ok(())
 }

@@ -56,6 +56,7 @@ pub fn number(reader: &mut Reader<'_>) -> Option<u64>
 }
 
 /// A whole number below 2^64.
+#[inline(always)]
 #[tactic(auto, using(crate::proofs::Steps::below_spelled))]
 pub(crate) fn u64_of(reader: &mut Reader<'_>) -> Option<u64>
     ensures { IfSome result (λ n. Spells (below (2 ^ 64)) 0 reader.old n reader.new) }
@@ -65,6 +66,7 @@ pub(crate) fn u64_of(reader: &mut Reader<'_>) -> Option<u64>
 }
 
 /// A whole number below 2^32.
+#[inline(always)]
 #[tactic(auto, using(crate::proofs::Steps::below_spelled))]
 pub(crate) fn u32_of(reader: &mut Reader<'_>) -> Option<u32>
     ensures { IfSome result (λ n. Spells (below (2 ^ 32)) 0 reader.old n reader.new) }
@@ -74,6 +76,7 @@ pub(crate) fn u32_of(reader: &mut Reader<'_>) -> Option<u32>
 }
 
 /// A whole number below 256.
+#[inline(always)]
 #[tactic(auto, using(crate::proofs::Steps::below_spelled))]
 pub(crate) fn u8_of(reader: &mut Reader<'_>) -> Option<u8>
     ensures { IfSome result (λ n. Spells (below (2 ^ 8)) 0 reader.old n reader.new) }
