@@ -25,8 +25,14 @@ fn items_and_customers(rt: HostRuntime) -> Result<(), Fail> {
     let mut serial = Serial::new(rt.alloc(), Stock);
     let table = [
         (Asked::AddItem(1, 1_000_000_001, 5), StockReply::Limit),
-        (Asked::AddItem(1, 5, 1_000_000_000_000_001), StockReply::Limit),
-        (Asked::AddItem(1, 1_000_000_000, 1_000_000_000_000_000), StockReply::Done),
+        (
+            Asked::AddItem(1, 5, 1_000_000_000_000_001),
+            StockReply::Limit,
+        ),
+        (
+            Asked::AddItem(1, 1_000_000_000, 1_000_000_000_000_000),
+            StockReply::Done,
+        ),
         (Asked::AddItem(1, 0, 0), StockReply::Exists),
         (Asked::AddItem(1, u64::MAX, 0), StockReply::Limit),
         (Asked::Restock(2, u64::MAX), StockReply::NoItem),
@@ -66,8 +72,14 @@ fn orders_and_settlements(rt: HostRuntime) -> Result<(), Fail> {
         (Asked::OrderTwo(9, 50, (4, 1), (2, 4)), StockReply::NoItem),
         // A total above the limit, and one above 2^64 - 1.
         (Asked::OrderOne(9, 50, (1, 2)), StockReply::Limit),
-        (Asked::OrderOne(9, 50, (1, 1_000_000_000)), StockReply::Limit),
-        (Asked::OrderTwo(9, 50, (1, 1), (2, 3)), StockReply::Ordered(all)),
+        (
+            Asked::OrderOne(9, 50, (1, 1_000_000_000)),
+            StockReply::Limit,
+        ),
+        (
+            Asked::OrderTwo(9, 50, (1, 1), (2, 3)),
+            StockReply::Ordered(all),
+        ),
         (Asked::OrderOne(9, 50, (4, 1)), StockReply::OrderExists),
         (Asked::OrderOne(9, 51, (2, 1)), StockReply::Short),
         (Asked::SettleOf(9, 50), StockReply::Settled(all)),

@@ -84,7 +84,11 @@ fn orders_refused(rt: HostRuntime) -> Result<(), Fail> {
     let lines = [(1, 1), (2, 1), (3, 1), (4, 1), (5, 1)];
     for (count, want) in [(0, 4), (1, 0), (4, 0), (5, 4)] {
         assert!(rt; count <= lines.len());
-        assert_eq!(rt; refused(rt.alloc(), &lines[..count])?, want, "{count} lines");
+        assert_eq!(rt;
+            refused(rt.alloc(), &lines[..count])?,
+            want,
+            "{count} lines"
+        );
     }
 
     // Two lines; where two refusals apply the lesser number is answered.
@@ -96,7 +100,11 @@ fn orders_refused(rt: HostRuntime) -> Result<(), Fail> {
         ((1, 2), (1, 3), 3),
         ((1, 0), (1, 1), 3),
     ] {
-        assert_eq!(rt; refused(rt.alloc(), &[first, second])?, want, "{first:?}, {second:?}");
+        assert_eq!(rt;
+            refused(rt.alloc(), &[first, second])?,
+            want,
+            "{first:?}, {second:?}"
+        );
     }
     let five = [(1, 1), (2, 1), (3, 1), (4, 1), (1, 1)];
     assert_eq!(rt; refused(rt.alloc(), &five)?, 3);
