@@ -1,4 +1,4 @@
--- Requests and replies of Kv that compare equal are the same.
+-- Lemmas: requests and replies of Kv that compare equal are the same.
 --     numbers_exact      rows
 --     requests_exact      requests
 --     replies_exact      replies

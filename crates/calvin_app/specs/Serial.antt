@@ -3,8 +3,8 @@
 --     answer_on m t v, writes_on m t v      what the request t is answered, and what it writes, on its view
 --     answer_one m t rows, after_one m t rows      one request: its answer, and the rows after it
 --     serial m requests rows      one request after another: the last rows, and the answers
---     rows_before m order rows q      the rows of the serial run just before the place q
---     answers_by_place m order rows      the serial run's answers, each with its place
+--     rows_before m order rows q      the rows of the serial run just before the place q: for the scheduler and the nodes, which run requests out of order
+--     answers_by_place m order rows      the serial run's answers, each with its place: for the same, which answer out of order
 use Rattle.std.specs.Prelude.{Bool, if◌then◌else◌, List, [], ◌∷◌, map}
 use Rattle.std.specs.List.{zip}
 use Rattle.calvin_types.specs.declared.key.Key.{Key}

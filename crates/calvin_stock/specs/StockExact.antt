@@ -1,4 +1,4 @@
--- Requests, rows and replies of Stock that compare equal are the same.
+-- Lemmas: requests, rows and replies of Stock that compare equal are the same.
 --     rows_exact      rows
 --     requests_exact      requests
 --     replies_exact      replies

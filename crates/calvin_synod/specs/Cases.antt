@@ -4,8 +4,8 @@
 --     Replica B      the data of one replica, by role
 --     Letters B      what is sent in one step: nothing, one message to one replica, or one to all
 --     Deed B      a refusal, or the data after the step, what is sent, and the batch that the learner gives for a slot, if any
---     handle size me from message x      what replica me of a group of this size makes of a message
---     propose size me slot batch x      what it makes of a batch to propose
+--     handle size from message x      what a replica of a group of this size makes of a message that the replica `from` sent
+--     propose me slot batch x      what replica me makes of a batch to propose
 --     restart x      what it is after a restart
 --     fresh      what it is at first
 use Rattle.std.specs.Prelude.{ℕ, Bool, true, false, ◌+◌, ◌^◌, Option, Some, None, nat_lt, if◌then◌else◌, max}

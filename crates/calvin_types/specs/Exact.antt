@@ -1,4 +1,4 @@
--- Tests of equality that tell values apart.
+-- Lemmas: tests of equality that tell values apart.
 --     first, second, both      the parts of a joined test
 --     pointwise_exact, option_exact      lists and options of what a test tells apart are told apart
 use Rattle.std.specs.Prelude.{◌≡◌, Bool, true, false, ◌&&◌, List, [], ◌∷◌, Option, Some, None, refl}

@@ -1,4 +1,4 @@
--- The order of keys is total, and keys that compare alike are one.
+-- Lemmas: the order of keys is total, and keys that compare alike are one.
 --     key_cmp_exact      keys that compare alike are one
 --     key_cmp_total      the order of keys is total
 --     has-alike      keys that compare alike are in the same lists
