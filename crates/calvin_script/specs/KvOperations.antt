@@ -19,18 +19,15 @@ use Rattle.calvin_script.specs.Grammar.{Grammar, as_declared}
 abbrev pub row_key : Data → Option Key
 row_key d = option_map key_of (below (2 ^ 64) d)
 
--- the number that follows the name of an operation, and nothing after it
 unfoldable pub one_number : Data → Option ℕ
 one_number d = only_if (is_none (at 2 d)) (option_and_then (below (2 ^ 64)) (at 1 d))
 
--- the two numbers that follow the name of an operation, and nothing after them
 unfoldable pub two_numbers : Data → Option (ℕ × ℕ)
 two_numbers d = only_if (is_none (at 3 d)) (do
   first ← option_and_then (below (2 ^ 64)) (at 1 d)
   second ← option_and_then (below (2 ^ 64)) (at 2 d)
   Some (first, second))
 
--- the three numbers that follow the name of an operation, and nothing after them
 unfoldable pub three_numbers : Data → Option (ℕ × ℕ × ℕ)
 three_numbers d = only_if (is_none (at 4 d)) (do
   first ← option_and_then (below (2 ^ 64)) (at 1 d)
