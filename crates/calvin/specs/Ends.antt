@@ -20,7 +20,6 @@ pub record Devices (S K E : Type 0) : Type 0 where
   pub told : E → Option (List ℕ)
   pub tell_failures : E → ℕ
 
--- all of a line is out; or, where a write failed, a proper beginning of it
 pub record Tells (old new : Option (List ℕ)) (failures later : ℕ) (line : List ℕ) : Type 0 where
   pub whole : later ≡ failures → Appends old new line
   pub one_failure : later ≢ failures → later ≡ failures + 1
@@ -38,7 +37,6 @@ module _ {S K E : Type 0} (d : Devices S K E) (input input_after : S) (output ou
   abbrev pub IsTold : List ℕ → Type 0
   IsTold line = Tells (d.told error) (d.told error_after) (d.tell_failures error) (d.tell_failures error_after) line
 
-  -- of every line
   pub record LeavesDevices : Type 0 where
     -- where all went well, nothing is said
     pub silent : status ≡ 0 → error_after ≡ error
@@ -55,7 +53,6 @@ module _ {S K E : Type 0} (d : Devices S K E) (input input_after : S) (output ou
     pub told_reading : ReadingFailed → IsTold (complaint ReadFailed)
     pub told_writing : WritingFailed → IsTold (complaint WriteFailed)
 
-  -- of a subcommand whose answer to its input is a text, or a refusal
   pub record RunsEngine (text : List ℕ → Result (List ℕ) Fault) : Type 0 where
     -- where it ended well, the text is out
     pub written : status ≡ 0 → IfSome (d.left input) (λ bytes. HasText (text bytes) (λ answer. Appends (d.taken output) (d.taken output_after) answer))

@@ -29,11 +29,9 @@ calvin = let plain = new_app (codes "calvin") in
 abbrev pub IsTaken : List (List ℕ) → Type 0
 IsTaken words = fault_of calvin words ≡ []
 
--- as clap reads them, the words name the subcommand `serial`
 abbrev pub NamesSerial : List (List ℕ) → Type 0
 NamesSerial words = option_map (λ s. s.0) (subcommand_of calvin words) ≡ Some (codes "serial")
 
--- clap takes the words, and they name the subcommand
 abbrev pub IsSerialLine : List (List ℕ) → Type 0
 IsSerialLine words = IsTaken words × NamesSerial words
 
@@ -45,35 +43,29 @@ IsHelpLine words = fault_of calvin words ≡ DisplayHelp ∷ []
 abbrev pub IsBadLine : List (List ℕ) → Type 0
 IsBadLine words = (fault_of calvin words ≢ []) × ¬ IsAmong DisplayHelp (fault_of calvin words)
 
--- one of the words after the program's name is `help`
 abbrev pub HasHelpWord : List (List ℕ) → Type 0
 HasHelpWord words = Contains (drop 1 words) (codes "help")
 
--- the words of a line are the program's name and `serial`
 abbrev pub IsPlainSerialLine : List (List ℕ) → Type 0
 IsPlainSerialLine words = (program : List ℕ) × (words ≡ program ∷ codes "serial" ∷ [])
 
--- it is the serial run that is asked for
 abbrev pub IsRun : Result Wish Refusal → Type 0
 IsRun (Ok Serial) = Unit {0}
 IsRun (Ok (Help e)) = ⊥
 IsRun (Err refusal) = ⊥
 
--- it is the serial run that is asked for, unless memory runs out
 abbrev pub IsSerial : Result Wish Refusal → Type 0
 IsSerial (Ok Serial) = Unit {0}
 IsSerial (Ok (Help e)) = ⊥
 IsSerial (Err BadLine) = ⊥
 IsSerial (Err OutOfMemory) = Unit {0}
 
--- it is help that is asked for, unless memory runs out
 abbrev pub IsHelp : Result Wish Refusal → Type 0
 IsHelp (Ok Serial) = ⊥
 IsHelp (Ok (Help e)) = Unit {0}
 IsHelp (Err BadLine) = ⊥
 IsHelp (Err OutOfMemory) = Unit {0}
 
--- nothing is asked for
 abbrev pub IsRefused : Result Wish Refusal → Type 0
 IsRefused (Ok wish) = ⊥
 IsRefused (Err refusal) = Unit {0}

@@ -7,10 +7,8 @@ use Rattle.calvin_types.specs.declared.key.Key.{Key}
 use Rattle.calvin_types.specs.Keys.{key_cmp}
 use Rattle.calvin_app.specs.Rows.{Rows}
 
--- whether the keys of entries rise
 abbrev pub rising : {Row : Type 0} → List (Key × Row) → Type 0
 rising es = T (map.is_sorted key_cmp es)
 
--- the map that entries show
 abbrev pub shown : {Row : Type 0} → List (Key × Row) → Rows Row
 shown es = map.from_sorted es

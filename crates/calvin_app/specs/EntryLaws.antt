@@ -11,22 +11,17 @@ use Rattle.calvin_types.specs.Keys.{key_cmp}
 use Rattle.calvin_types.specs.KeyOrder.{key_cmp_total}
 use Rattle.calvin_app.specs.Entries.{rising, shown}
 
--- rising entries are those of the map that they show
 pub entries_kept : {Row : Type 0} (es : List (Key × Row)) → rising es → map.entries (shown es) ≡ es
 entries_kept es h = map.entries-from_sorted key_cmp es h
 
--- entries rise after one is put among them
 pub rising-put : {Row : Type 0} (es : List (Key × Row)) (k : Key) (r : Row) → rising es → rising (map.put key_cmp k r es)
 rising-put es k r h = Rattle.std.specs.FinMap.Entries.is_sorted-put key_cmp key_cmp_total k r es h
 
--- and then they show the map with this row
 pub shown-put : {Row : Type 0} (es : List (Key × Row)) (k : Key) (r : Row) → rising es → shown (map.put key_cmp k r es) ≡ map.insert (shown es) k r
 shown-put es k r h = map.same_entries_map _ _ (entries_kept _ (rising-put es k r h) ∙ ap (map.put key_cmp k r) (sym (entries_kept es h)) ∙ sym (map.entries-insert key_cmp_total (shown es) k r))
 
--- the map's row of a key is that of the entries
 pub get-shown : {Row : Type 0} (es : List (Key × Row)) (k : Key) → rising es → map.get (shown es) k ≡ map.find key_cmp k es
 get-shown es k h = map.get-from_sorted key_cmp es k h
 
--- the map has as many keys as there are entries
 pub len-shown : {Row : Type 0} (es : List (Key × Row)) → rising es → map.len (shown es) ≡ length es
 len-shown es h = map.len-entries _ ∙ ap length (entries_kept es h)

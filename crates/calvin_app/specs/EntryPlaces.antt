@@ -10,22 +10,18 @@ use Rattle.std.specs.FinMap as map
 use Rattle.calvin_types.specs.declared.key.Key.{Key}
 use Rattle.calvin_types.specs.Keys.{key_cmp, has}
 
--- the key stands at this place
 pub record IsAt {Row : Type 0} (key : Key) (entries : List (Key × Row)) (i : ℕ) : Type 0 where
   pub within : i < length entries
   pub put_is : (row : Row) → map.put key_cmp key row entries ≡ slice_set entries i (key, row)
 
--- the key is missing, and would stand at this place
 pub record IsMissingAt {Row : Type 0} (key : Key) (entries : List (Key × Row)) (i : ℕ) : Type 0 where
   pub within : i ≤ length entries
   pub put_is : (row : Row) → map.put key_cmp key row entries ≡ insert entries i (key, row)
 
--- the key isn't written yet
 pub record IsUnwritten {Row : Type 0} (key : Key) (writes : List (Key × Row)) : Type 0 where
   pub missing : has (keys_of writes) key ≡ false
   pub put_is : (row : Row) → with_write key row writes ≡ writes ++ (key, row) ∷ []
 
--- the key is written at this place
 pub record IsWrittenAt {Row : Type 0} (key : Key) (writes : List (Key × Row)) (i : ℕ) : Type 0 where
   pub within : i < length writes
   pub there : has (keys_of writes) key ≡ true

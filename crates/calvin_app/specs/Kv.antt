@@ -23,24 +23,19 @@ use Rattle.calvin_app.specs.declared.kv.KvReply.TheVariants.{Done, Limit, Short,
 use Rattle.calvin_app.specs.Rows.{Rows}
 use Rattle.calvin_app.specs.Meaning.{Meaning}
 
--- the key of table 0 with this number
 abbrev pub key_of : ℕ → Key
 key_of id = record { table = 0; id = id }
 
--- the keys that a get asks for
 abbrev pub asked : List Key → List Key
 asked keys = take MOST_KEYS (filter (λ k. k.table == 0) keys)
 
--- the keys with these numbers, or one where they are the same
 abbrev pub pair_of : ℕ → ℕ → List Key
 pair_of a b = insert_key (key_of b) (key_of a ∷ [])
 
--- a key, and the one that its row names where it has one
 abbrev pub followed : ℕ → Option ℕ → List Key
 followed id None = key_of id ∷ []
 followed id (Some other) = pair_of id other
 
--- the keys of a request
 abbrev pub needs_of : KvRequest → Rows ℕ → Sets
 needs_of (Put id value) rows = record { reads = []; writes = key_of id ∷ [] }
 needs_of (Get keys) rows = record { reads = asked keys; writes = [] }
@@ -48,17 +43,14 @@ needs_of (Add id amount) rows = record { reads = key_of id ∷ []; writes = key_
 needs_of (Move from to amount) rows = record { reads = pair_of from to; writes = pair_of from to }
 needs_of (Follow id) rows = record { reads = followed id (finmap.get rows (key_of id)); writes = [] }
 
--- whether they may depend on rows
 abbrev pub is_dependent : KvRequest → Bool
 is_dependent (Follow id) = true
 is_dependent _ = false
 
--- the reply to a sum, and what it writes, where it is below 2^64 or not
 abbrev pub sum_outcome : ℕ → ℕ → Bool → KvReply × List (Key × ℕ)
 sum_outcome id sum true = (Value sum, (key_of id, sum) ∷ [])
 sum_outcome id sum false = (Limit, [])
 
--- the reply to a move, and what it writes, where the numbers under its keys are these
 abbrev pub moved : ℕ → ℕ → ℕ → ℕ → ℕ → KvReply × List (Key × ℕ)
 moved from to amount source target =
     if nat_lt source amount then (Short, [])
@@ -74,6 +66,5 @@ outcome_of (Add id amount) rows = let sum = unwrap_or (finmap.get rows (key_of i
 outcome_of (Move from to amount) rows = moved from to amount (unwrap_or (finmap.get rows (key_of from)) 0) (unwrap_or (finmap.get rows (key_of to)) 0)
 outcome_of (Follow id) rows = (Found (option_and_then (λ other. finmap.get rows (key_of other)) (finmap.get rows (key_of id))), [])
 
--- what the application needs and does
 abbrev pub kv : Meaning KvRequest ℕ KvReply
 kv = record { needs = needs_of; outcome = outcome_of }

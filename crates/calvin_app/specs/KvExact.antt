@@ -1,4 +1,4 @@
--- Requests and replies of Kv that compare equal are the same.
+-- Lemmas: requests and replies of Kv that compare equal are the same.
 --     numbers_exact      rows
 --     requests_exact      requests
 --     replies_exact      replies
@@ -15,11 +15,9 @@ use Rattle.calvin_app.specs.Meaning.{IsExact}
 use Rattle.calvin_app.specs.contracts.kv.KvRequestPartialEq.TheImpl as requests
 use Rattle.calvin_app.specs.contracts.kv.KvReplyPartialEq.TheImpl as replies
 
--- numbers that compare equal are the same
 pub numbers_exact : IsExact (λ (a b : ℕ). a == b)
 numbers_exact = eqb-true
 
--- requests that compare equal are the same
 pub requests_exact : (a b : KvRequest) → requests.ghosts.eq a b ≡ true → a ≡ b
 requests_exact (Put x y) (Put z w) h = λ i. Put (eqb-true x z (first _ _ h) i) (eqb-true y w (second _ _ h) i)
 requests_exact (Get x) (Get z) h = ap Get (pointwise_exact _ equal_keys_exact x z h)
@@ -28,7 +26,6 @@ requests_exact (Move x y n) (Move z w m) h = λ i. Move (eqb-true x z (first _ _
 requests_exact (Follow x) (Follow y) h = ap Follow (eqb-true x y h)
 requests_exact _ _ h = absurd (false≢true h)
 
--- replies that compare equal are the same
 pub replies_exact : (a b : KvReply) → replies.ghosts.eq a b ≡ true → a ≡ b
 replies_exact Done Done h = refl
 replies_exact Limit Limit h = refl

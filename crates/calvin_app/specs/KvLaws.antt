@@ -22,7 +22,6 @@ use Rattle.calvin_app.specs.Rows.{Rows, view}
 use Rattle.calvin_app.specs.RowLaws.{get-seen}
 use Rattle.calvin_app.specs.Meaning.{IsLawful, IsBounded, AllUpTo}
 
--- where no row is known, a key alone is followed
 pub followed_first : (id : ℕ) → followed id (finmap.get (finmap.empty {R = key_cmp}) (key_of id)) ≡ followed id None
 followed_first id = ap (followed id) (finmap.get-empty key_cmp (key_of id))
 
@@ -121,7 +120,6 @@ writes_bounded (Add id amount) v = one_bounded id
 writes_bounded (Move from to amount) v = pair_bounded from to
 writes_bounded (Follow id) v = none_bounded
 
--- it keeps the laws of applications
 pub kv_lawful : IsLawful kv is_dependent 16 0
 kv_lawful = record {
   writes_within_the_sets = writes_within;

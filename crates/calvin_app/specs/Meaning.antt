@@ -17,21 +17,17 @@ pub record Meaning (Args Row Reply : Type 0) : Type 0 where
   pub needs : Args → Rows Row → Sets
   pub outcome : Args → Rows Row → Reply × List (Key × Row)
 
--- writes within the sets
 abbrev pub WritesWithin : {Args Row Reply : Type 0} → Meaning Args Row Reply → Type 0
 WritesWithin {Args} {Row} m = (args : Args) (v : Rows Row) (k : Key) → has (map (λ w. w.0) (m.outcome args v).1) k ≡ true → has (m.needs args v).writes k ≡ true
 
--- no key is in a table above
 abbrev pub AllUpTo : ℕ → List Key → Type 0
 AllUpTo top [] = Unit {0}
 AllUpTo top (k ∷ ks) = (k.table ≤ top) × AllUpTo top ks
 
--- no more keys than the limit, and none in a table above the top one
 pub record IsBounded (most_keys top_table : ℕ) (keys : List Key) : Type 0 where
   pub number : length keys ≤ most_keys
   pub tables : AllUpTo top_table keys
 
--- the laws of applications
 pub record IsLawful {Args Row Reply : Type 0} (m : Meaning Args Row Reply) (dependent : Args → Bool) (most_keys top_table : ℕ) : Type 0 where
   -- a request writes only keys of the writes that it needs
   pub writes_within_the_sets : WritesWithin m
@@ -44,6 +40,5 @@ pub record IsLawful {Args Row Reply : Type 0} (m : Meaning Args Row Reply) (depe
   pub bounded_writes : (args : Args) (v : Rows Row) → IsBounded most_keys top_table (m.needs args v).writes
   pub at_most_sixteen : most_keys ≤ MOST_KEYS
 
--- equal is the same
 abbrev pub IsExact : {T : Type 0} → (T → T → Bool) → Type 0
 IsExact {T} eq = (a b : T) → eq a b ≡ true → a ≡ b

@@ -8,6 +8,5 @@ use Rattle.calvin_types.specs.Keys.{has}
 use Rattle.calvin_types.specs.KeyOrder.{has-alike}
 use Rattle.calvin_app.specs.Rows.{Rows, view}
 
--- the row of a key of the view is that of the rows
 pub get-seen : {Row : Type 0} (rows : Rows Row) (ks : List Key) (k : Key) → has ks k ≡ true → get (view rows ks) k ≡ get rows k
 get-seen rows ks k there = get-retain_keys rows (has ks) k (λ x h. has-alike ks k x h) ∙ ap (λ b. cond b (get rows k) None) there

@@ -8,7 +8,6 @@ use Rattle.std.specs.FinMap.{FinMap, insert, retain_keys}
 use Rattle.calvin_types.specs.declared.key.Key.{Key}
 use Rattle.calvin_types.specs.Keys.{key_cmp, has, partition_of}
 
--- a finite map from keys to rows
 abbrev pub Rows : Type 0 → Type 0
 Rows Row = FinMap {K = Key} key_cmp Row
 
@@ -16,11 +15,9 @@ Rows Row = FinMap {K = Key} key_cmp Row
 abbrev pub view : {Row : Type 0} → Rows Row → List Key → Rows Row
 view rows keys = retain_keys rows (has keys)
 
--- the rows of a partition
 abbrev pub part : {Row : Type 0} → ℕ → ℕ → Rows Row → Rows Row
 part count p rows = retain_keys rows (λ k. partition_of count k == p)
 
--- rows overwritten by writes
 abbrev pub overwritten : {Row : Type 0} → Rows Row → List (Key × Row) → Rows Row
 overwritten rows [] = rows
 overwritten rows (w ∷ ws) = overwritten (insert rows w.0 w.1) ws

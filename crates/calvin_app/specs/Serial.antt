@@ -3,8 +3,8 @@
 --     answer_on m t v, writes_on m t v      what the request t is answered, and what it writes, on its view
 --     answer_one m t rows, after_one m t rows      one request: its answer, and the rows after it
 --     serial m requests rows      one request after another: the last rows, and the answers
---     rows_before m order rows q      the rows of the serial run just before the place q
---     answers_by_place m order rows      the serial run's answers, each with its place
+--     rows_before m order rows q      the rows of the serial run just before the place q: for the scheduler and the nodes, which run requests out of order
+--     answers_by_place m order rows      the serial run's answers, each with its place: for the same, which answer out of order
 use Rattle.std.specs.Prelude.{Bool, if◌then◌else◌, List, [], ◌∷◌, map}
 use Rattle.std.specs.List.{zip}
 use Rattle.calvin_types.specs.declared.key.Key.{Key}
@@ -18,34 +18,27 @@ use Rattle.calvin_app.specs.Rows.{Rows, view, overwritten}
 use Rattle.calvin_app.specs.Meaning.{Meaning}
 
 module _ {Args Row Reply : Type 0} (m : Meaning Args Row Reply) where
-  -- whether the declared sets are those that the request needs
   abbrev pub is_current : Txn Args → Rows Row → Bool
   is_current t v = same_sets (m.needs t.args v) t.sets
 
-  -- what the request is answered on its view
   unfoldable pub answer_on : Txn Args → Rows Row → Answer Reply
   answer_on t v = if is_current t v then answer.Reply (m.outcome t.args v).0 else answer.Changed
 
-  -- what the request writes on its view
   unfoldable pub writes_on : Txn Args → Rows Row → List (Key × Row)
   writes_on t v = if is_current t v then (m.outcome t.args v).1 else []
 
-  -- one request
   abbrev pub answer_one : Txn Args → Rows Row → Answer Reply
   answer_one t rows = answer_on t (view rows t.sets.reads)
 
   abbrev pub after_one : Txn Args → Rows Row → Rows Row
   after_one t rows = overwritten rows (writes_on t (view rows t.sets.reads))
 
-  -- one after another
   abbrev pub serial : List (Txn Args) → Rows Row → Rows Row × List (Answer Reply)
   serial [] rows = (rows, [])
   serial (t ∷ ts) rows = ((serial ts (after_one t rows)).0, answer_one t rows ∷ (serial ts (after_one t rows)).1)
 
-  -- the rows just before a place
   abbrev pub rows_before : Order Args → Rows Row → Place → Rows Row
   rows_before order rows q = (serial (before order q) rows).0
 
-  -- the answers, each with its place
   abbrev pub answers_by_place : Order Args → Rows Row → List (Place × Answer Reply)
   answers_by_place order rows = zip (map (λ e. e.0) order) (serial (map (λ e. e.1) order) rows).1

@@ -54,7 +54,7 @@ module _ {Row : Type 0} where
   abbrev pub closed_upto : Place → Store Row → Store Row
   closed_upto q store = record store { point = left_after q store.point }
 
-  -- whether a key has a row in memory
+  -- whether a key has a row in memory: for a keeper with rows on disk, and the scheduler, which runs a request once its rows are there
   abbrev pub is_hot : Store Row → Key → Bool
   is_hot store k = is_some (get store.map k) && not (is_some (get store.cold k))
 

@@ -5,11 +5,9 @@ use Rattle.std.specs.Prelude.{List, [], ◌∷◌, map, if◌then◌else◌}
 use Rattle.calvin_types.specs.declared.key.Key.{Key}
 use Rattle.calvin_types.specs.Keys.{same_key}
 
--- the keys that are written
 abbrev pub keys_of : {Row : Type 0} → List (Key × Row) → List Key
 keys_of ws = map (λ w. w.0) ws
 
--- writes with one more, in place of the one under its key
 abbrev pub with_write : {Row : Type 0} → Key → Row → List (Key × Row) → List (Key × Row)
 with_write key row [] = (key, row) ∷ []
 with_write key row (w ∷ ws) = if same_key key w.0 then (key, row) ∷ ws else w ∷ with_write key row ws

@@ -15,7 +15,6 @@ use Rattle.calvin_app.specs.Meaning.{Meaning, IsLawful, IsBounded}
 use Rattle.calvin_app.specs.Rows.{Rows, view}
 use Rattle.calvin_app.specs.RowLaws.{get-seen}
 
--- the key that a row names
 abbrev pub named : ℕ → Rows ℕ → Key
 named a rows = key_of (unwrap_or (map.get rows (key_of a)) 0)
 
@@ -45,7 +44,6 @@ two_bounded i j = elim (key_cmp (key_of i) (key_of j)) as (λ o. IsBounded 2 0 (
   | Greater ↦ record { number = lit≤ tt; tables = (lit≤ tt, (lit≤ tt, tt)) }
 ]
 
--- it keeps the laws of applications
 pub forward_lawful : IsLawful forward (λ _. true) 2 0
 forward_lawful = record {
   writes_within_the_sets = λ a v k h. h;

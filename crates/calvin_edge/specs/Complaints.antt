@@ -5,10 +5,8 @@ use Rattle.std.specs.Prelude.{ℕ, List, ◌++◌, codes, decimal}
 use Rattle.calvin_types.specs.declared.fault.Fault.{Fault}
 use Rattle.calvin_types.specs.Faults.{number_of, name_of}
 
--- the line of a number and a name
 abbrev pub line_of : ℕ → List ℕ → List ℕ
 line_of number name = codes "calvin: " ++ decimal number ++ codes " " ++ name ++ codes "\n"
 
--- a fault's line
 abbrev pub complaint : Fault → List ℕ
 complaint fault = line_of (number_of fault) (name_of fault)

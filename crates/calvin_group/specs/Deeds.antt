@@ -13,13 +13,11 @@ use Rattle.calvin_group.specs.declared.event.Outcome.{Outcome}
 use Rattle.calvin_group.specs.declared.event.Outcome.TheVariants as outcome
 use Rattle.calvin_group.specs.Groups.{GroupState, packets_of, outcome_of}
 
--- they are all replicas of a group of that size, in order of their numbers
 pub record IsGroup {B : Type 0} (size : ℕ) (members : List (MemberState B)) : Type 0 where
   pub all_there : length members ≡ size
   pub each : (i : ℕ) (m : MemberState B) → slice_get members i ≡ Some m → (m.size ≡ size) × (m.me ≡ i)
 
 module _ {B : Type 0} where
-  -- the group of these replicas, with these packets
   abbrev pub group_of : List (MemberState B) → List (Packet B) → GroupState B
   group_of members packets = record { replicas = map (λ m. m.replica) members; packets = packets }
 

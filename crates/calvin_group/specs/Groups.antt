@@ -31,7 +31,6 @@ use Rattle.calvin_group.specs.declared.event.GroupEvent.TheVariants.{Propose, De
 use Rattle.calvin_group.specs.declared.event.Outcome.{Outcome}
 use Rattle.calvin_group.specs.declared.event.Outcome.TheVariants.{Done, Gave, Refused}
 
--- the replicas' data, by their number, and the packets sent so far, by theirs
 pub record GroupState (B : Type 0) : Type 0 where
   pub replicas : List (Replica B)
   pub packets : List (Packet B)
@@ -67,13 +66,11 @@ module _ {B : Type 0} where
   deliver w None = (Refused NoPacket, w)
   deliver w (Some p) = at_replica w p.to (handle (length w.replicas) p.from p.message) (slice_get w.replicas p.to)
 
-  -- how an event ends, and the group after it
   abbrev pub happens : GroupState B → GroupEvent B → Outcome B × GroupState B
   happens w (Propose me slot batch) = at_replica w me (propose me slot batch) (slice_get w.replicas me)
   happens w (Deliver number) = deliver w (slice_get w.packets number)
   happens w (Restart me) = at_replica w me restart (slice_get w.replicas me)
 
-  -- the event was not refused
   abbrev pub TakesEffect : Outcome B → Type 0
   TakesEffect Done = ⊤
   TakesEffect (Gave slot batch) = ⊤
@@ -100,7 +97,6 @@ module _ {B : Type 0} where
   Leads w (event ∷ events) [] after = ⊥
   Leads w (event ∷ events) (outcome ∷ outcomes) after = (next : GroupState B) × Step w event outcome next × Leads next events outcomes after
 
-  -- what a replica has recorded of a slot, if there is such a replica
   abbrev pub recorded_by : Option (Replica B) → Slot → Option (Recorded B)
   recorded_by None slot = None
   recorded_by (Some x) slot = get x.acceptor slot
@@ -109,7 +105,6 @@ module _ {B : Type 0} where
   abbrev pub Cast : GroupState B → Slot → ℕ → Ballot → B → Type 0
   Cast w slot replica ballot batch = (to : ℕ) × Contains w.packets (record { from = replica; to = to; message = Accepted slot ballot batch })
 
-  -- a majority voted for the batch at one ballot
   abbrev pub Chosen : GroupState B → Slot → B → Type 0
   Chosen w slot batch = IsChosen (length w.replicas) (Cast w slot) batch
 
@@ -124,7 +119,6 @@ pub record IsBeginning {B : Type 0} (w : GroupState B) (early late : List (Group
   pub given : (slot : Slot) (batch : B) → Contains first (Gave slot batch) → Chosen then slot batch
   pub one : (slot : Slot) (x y : B) → Chosen then slot x → Chosen then slot y → x ≡ y
 
--- some events lead from the opening to it
 pub record IsReached {B : Type 0} (size : ℕ) (w : GroupState B) : Type 0 where
   pub events : List (GroupEvent B)
   pub outcomes : List (Outcome B)

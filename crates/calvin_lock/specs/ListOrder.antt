@@ -10,20 +10,16 @@ use Rattle.calvin_types.specs.declared.place.Place.{Place}
 use Rattle.calvin_types.specs.Places.{place_cmp}
 use Rattle.calvin_lock.specs.Ready.{IsPast, Conflict}
 
--- no request is at a place past the last one
 abbrev pub UpTo : Option Place → List (Place × Sets) → Type 0
 UpTo last [] = Unit {0}
 UpTo last (e ∷ es) = (¬ IsPast last e.0) × UpTo last es
 
--- the places rise, up to the last one requested
 pub record IsInOrder (requests : List (Place × Sets)) (last : Option Place) : Type 0 where
   pub rising : T (is_sorted place_cmp requests)
   pub up_to : UpTo last requests
 
--- the request of this place has so many before it
 abbrev pub IsAt : List (Place × Sets) → Place → ℕ → Type 0
 IsAt requests q i = (h : Sets) × (slice_get requests i ≡ Some (q, h))
 
--- no earlier request of the list conflicts with this one
 abbrev pub IsFree : List (Place × Sets) → ℕ → Type 0
 IsFree requests i = (j : ℕ) (e f : Place × Sets) → j < i → slice_get requests j ≡ Some e → slice_get requests i ≡ Some f → ¬ Conflict e.1 f.1

@@ -15,19 +15,15 @@ use Rattle.calvin_types.specs.Participants.{Site, is_local, local_keys}
 use Rattle.calvin_types.specs.Places.{IsBefore}
 use Rattle.calvin_lock.specs.Ready.{Requested}
 
--- those of the keys that the site stores
 abbrev pub local_sets : Site → Sets → Sets
 local_sets site g = record { reads = local_keys site g.reads; writes = local_keys site g.writes }
 
--- one writes a key stored at the site that the other reads or writes
 abbrev pub ConflictAt : Site → Sets → Sets → Type 0
 ConflictAt site g h = (k : Key) × (is_local site k ≡ true)
     × ((has g.writes k ≡ true) × (has (h.reads ++ h.writes) k ≡ true) ⊎ (has (g.reads ++ g.writes) k ≡ true) × (has h.writes k ≡ true))
 
--- no earlier unreleased place conflicts at the site
 abbrev pub IsReadyAt : Site → (Place → Option Sets) → Place → Sets → Type 0
 IsReadyAt site unreleased q h = (n : Place) (g : Sets) → unreleased n ≡ Some g → IsBefore n q → ¬ ConflictAt site g h
 
--- just the unreleased places are requested, each with its keys of the site
 abbrev pub IsLockedAs : Site → (Place → Option Sets) → Requested → Type 0
 IsLockedAs site unreleased r = (q : Place) → get r q ≡ option_map (local_sets site) (unreleased q)

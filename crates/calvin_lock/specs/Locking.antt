@@ -19,22 +19,17 @@ pub record Locking : Type 0 where
   -- the last place requested, released or not
   pub last : Option Place
 
--- nothing was requested
 abbrev pub no_locks : Locking
 no_locks = record { requested = empty; last = None }
 
--- no key is asked for
 abbrev pub IsNoKey : List Key → List Key → Type 0
 IsNoKey reads writes = (reads ≡ []) × (writes ≡ [])
 
--- with one more request, the last one
 abbrev pub with_request : Place → Sets → Locking → Locking
 with_request q sets l = record { requested = insert l.requested q sets; last = Some q }
 
--- with the request of a place released
 abbrev pub without : Place → Locking → Locking
 without q l = record l { requested = remove l.requested q }
 
--- no requested place is past the last one
 abbrev pub IsUpToLast : Locking → Type 0
 IsUpToLast l = (q : Place) → IsSome (get l.requested q) → ¬ IsPast l.last q

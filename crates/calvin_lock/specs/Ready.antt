@@ -13,28 +13,22 @@ use Rattle.calvin_types.specs.declared.place.Place.{Place}
 use Rattle.calvin_types.specs.Keys.{has}
 use Rattle.calvin_types.specs.Places.{place_cmp, IsBefore}
 
--- the unreleased requests by place, each with its keys
 abbrev pub Requested : Type 0
 Requested = FinMap {K = Place} place_cmp Sets
 
--- one writes a key that the other reads or writes
 abbrev pub Conflict : Sets → Sets → Type 0
 Conflict g h = (k : Key) × ((has g.writes k ≡ true) × (has (h.reads ++ h.writes) k ≡ true) ⊎ (has (g.reads ++ g.writes) k ≡ true) × (has h.writes k ≡ true))
 
--- requested and unreleased, and in conflict with no earlier unreleased request
 abbrev pub IsReady : Requested → Place → Type 0
 IsReady r q = (h : Sets) × (get r q ≡ Some h) × ((n : Place) (g : Sets) → get r n ≡ Some g → IsBefore n q → ¬ Conflict g h)
 
--- greater than a place, where there is one
 abbrev pub IsPast : Option Place → Place → Type 0
 IsPast None q = Unit {0}
 IsPast (Some a) q = IsBefore a q
 
--- the least ready place past another, or none where there is none
 abbrev pub IsFirstReady : Requested → Option Place → Option Place → Type 0
 IsFirstReady r after answer = MatchOption answer ((q : Place) → IsPast after q → ¬ IsReady r q)
     (λ p. IsPast after p × IsReady r p × ((q : Place) → IsPast after q → IsReady r q → ¬ IsBefore q p))
 
--- the least unreleased place
 abbrev pub IsOldest : Requested → Place → Type 0
 IsOldest r q = IsSome (get r q) × ((n : Place) → IsSome (get r n) → ¬ IsBefore n q)

@@ -14,22 +14,18 @@ use Rattle.calvin_types.specs.declared.place.Place.{Place}
 use Rattle.calvin_types.specs.declared.txn.Txn.{Txn}
 use Rattle.calvin_types.specs.Orders.{Rises}
 
--- requests in order
 abbrev pub Batch : Type 0 → Type 0
 Batch Args = List (Txn Args)
 
--- a batch for each slot
 abbrev pub Assignment : Type 0 → Type 0
 Assignment Args = Slot → Batch Args
 
 -- what stands in batches is requests, or requests with what else is known of each
 module _ {T : Type 0} where
-  -- the batches of the groups below g, by ascending group
   abbrev pub joined : (Slot → List T) → ℕ → ℕ → List T
   joined B e zero = []
   joined B e (suc g) = joined B e g ++ B (record { epoch = e; group = g })
 
-  -- each request at its place, counted from n
   abbrev pub numbered : ℕ → ℕ → List T → List (Place × T)
   numbered e n [] = []
   numbered e n (t ∷ ts) = (record { epoch = e; n = n }, t) ∷ numbered e (suc n) ts
@@ -38,16 +34,13 @@ module _ {T : Type 0} where
   abbrev pub merged : ℕ → (Slot → List T) → ℕ → List (Place × T)
   merged parts B e = numbered e 0 (joined B e parts)
 
-  -- n epochs from e on, one after another
   abbrev pub stretch : ℕ → (Slot → List T) → ℕ → ℕ → List (Place × T)
   stretch parts B e zero = []
   stretch parts B e (suc n) = merged parts B e ++ stretch parts B (suc e) n
 
-  -- the first n epochs
   abbrev pub order : ℕ → (Slot → List T) → ℕ → List (Place × T)
   order parts B n = stretch parts B 0 n
 
--- the place at which the first n epochs end
 abbrev pub end_of : ℕ → Place
 end_of n = record { epoch = n; n = 0 }
 

@@ -19,11 +19,9 @@ use Rattle.calvin_types.specs.Orders.{Order}
 use Rattle.calvin_types.specs.Places.{slot_cmp}
 use Rattle.calvin_order.specs.Merged.{Batch, Assignment, joined}
 
--- batches by their slots
 abbrev pub Batches : Type 0 → Type 0
 Batches Args = FinMap slot_cmp (Batch Args)
 
--- batches, and how many more are sure to find room
 pub record Holding (Args : Type 0) : Type 0 where
   pub batches : Batches Args
   pub room : ℕ
@@ -41,19 +39,15 @@ pub record Merging (Args : Type 0) : Type 0 where
   pub ready : ℕ
 
 module _ {Args : Type 0} where
-  -- the batch held for a slot, or the empty one
   abbrev pub batch_at : Batches Args → Assignment Args
   batch_at held slot = unwrap_or (get held slot) []
 
-  -- each group's batch of an epoch is held
   abbrev pub HoldsAll : Batches Args → ℕ → ℕ → Type 0
   HoldsAll held e parts = (g : ℕ) → g < parts → IsSome (get held (record { epoch = e; group = g }))
 
-  -- the batch that m holds for each slot
   abbrev pub held_by : Merging Args → Assignment Args
   held_by m = batch_at m.held
 
-  -- each group's batch of the next epoch is held
   abbrev pub IsComplete : Merging Args → Type 0
   IsComplete m = HoldsAll m.held m.next m.partitions
 
@@ -61,19 +55,15 @@ module _ {Args : Type 0} where
   abbrev pub IsReady : Merging Args → Type 0
   IsReady m = length (joined (held_by m) m.next m.partitions) ≤ m.ready
 
-  -- with a batch for a slot, unless one is held for it already
   abbrev pub with_batch : Slot → Batch Args → Merging Args → Merging Args
   with_batch slot batch m = if contains_key m.held slot then m else record m { held = insert m.held slot batch; room = m.room - 1 }
 
-  -- what is held besides the batches of an epoch of the groups below g
   abbrev pub without_epoch : ℕ → ℕ → Batches Args → Batches Args
   without_epoch e g held = retain_keys held (λ slot. not (slot.epoch == e && nat_lt slot.group g))
 
-  -- no batch is held for an epoch past the last
   abbrev pub EpochsFit : Batches Args → Type 0
   EpochsFit held = (slot : Slot) → IsSome (get held slot) → slot.epoch < 2 ^ 64
 
-  -- 1 to 16 groups, no batch of an epoch past the last, and no request kept back
   pub record IsMerge (parts : ℕ) (held : Batches Args) (given : Order Args) : Type 0 where
     pub some : 0 < parts
     pub few : parts ≤ 16

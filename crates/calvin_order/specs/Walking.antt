@@ -11,7 +11,6 @@ use Rattle.calvin_types.specs.declared.place.Slot.{Slot}
 use Rattle.calvin_order.specs.Merged.{numbered}
 
 module _ {T : Type 0} where
-  -- the batches of k groups from g on, by ascending group
   abbrev pub joined_from : (Slot → List T) → ℕ → ℕ → ℕ → List T
   joined_from B e g zero = []
   joined_from B e g (suc k) = B (record { epoch = e; group = g }) ++ joined_from B e (suc g) k
@@ -19,7 +18,6 @@ module _ {T : Type 0} where
   abbrev pub left_of : (Slot → List T) → Slot → ℕ → ℕ → List T → List (Place × T)
   left_of B slot groups n rest = numbered slot.epoch n (rest ++ joined_from B slot.epoch slot.group (groups - slot.group))
 
-  -- a place with the request that a reference points to
   abbrev pub placed : Place × Bor T → Place × T
   placed p = (p.0, p.1.now)
 

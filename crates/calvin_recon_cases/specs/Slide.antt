@@ -17,7 +17,6 @@ use Rattle.calvin_app.specs.Meaning.{Meaning, IsLawful, IsBounded}
 use Rattle.calvin_app.specs.Rows.{Rows, view}
 use Rattle.calvin_app.specs.RowLaws.{get-seen}
 
--- the greatest key below n that has a row
 unfoldable pub greatest : ℕ → Rows ℕ → Option ℕ
 greatest zero rows = None
 greatest (suc n) rows = if is_some (map.get rows (key_of n)) then Some n else greatest n rows
@@ -65,7 +64,6 @@ beside_bounded : (found : Option ℕ) → IsBounded 2 0 (beside found)
 beside_bounded None = record { number = lit≤ tt; tables = (lit≤ tt, tt) }
 beside_bounded (Some m) = record { number = lit≤ tt; tables = (lit≤ tt, (lit≤ tt, tt)) }
 
--- it keeps the laws of applications
 pub slide_lawful : IsLawful slide (λ _. true) 2 0
 slide_lawful = record {
   writes_within_the_sets = λ a v k h. h;

@@ -8,7 +8,6 @@ use Rattle.calvin_types.specs.declared.key.Key.{Key}
 use Rattle.calvin_types.specs.Keys.{insert_all, are_distinct}
 use Rattle.calvin_script.specs.Spelling.{◌>>=◌, only_if, below, list}
 
--- `[table,id]`
 unfoldable pub key : Data → Option Key
 key d = only_if (is_none (at 2 d)) (do
   table ← option_and_then (below (2 ^ 8)) (at 0 d)

@@ -24,14 +24,12 @@ id_of client own_number = do
   n ← below (2 ^ 32) own_number
   Some (record { client = c; number = n })
 
--- the sets that are declared
 abbrev pub declared : Data → Data → Option Sets
 declared reads writes = do
   read_keys ← key_set key reads
   written_keys ← key_set key writes
   Some (record { reads = read_keys; writes = written_keys })
 
--- the declared sets, both or neither, completed; where none are, those on the empty view
 unfoldable pub sets_of : {Args : Type 0} → Grammar Args → Args → Option Data → Option Data → Option Sets
 sets_of grammar args None None = Some (grammar.first_needs args)
 sets_of grammar args None (Some writes) = None

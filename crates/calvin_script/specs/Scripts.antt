@@ -62,7 +62,6 @@ module _ {Args : Type 0} where
 
   -- ---- what is written
 
-  -- a sequencer takes each of the requests
   abbrev pub are_taken : List (Request Args) → Bool
   are_taken requests = list_all (λ r. is_taken r.txn) requests
 

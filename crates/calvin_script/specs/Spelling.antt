@@ -15,7 +15,6 @@ infixl 10 ◌>>=◌
 abbrev pub ◌>>=◌ : {A B : Type 0} → Option A → (A → Option B) → Option B
 x >>= f = option_and_then f x
 
--- x, where the test holds
 abbrev pub only_if : {A : Type 0} → Bool → Option A → Option A
 only_if test x = if test then x else None
 
@@ -24,7 +23,6 @@ abbrev pub are_named : List (List ℕ) → Members → Bool
 are_named names no_members = true
 are_named names (member name d ms) = list_any (bytes_eq name) names && are_named names ms
 
--- an object that has no other members than these
 abbrev pub has_only : List (List ℕ) → Data → Bool
 has_only names null = false
 has_only names (boolean b) = false
@@ -33,13 +31,11 @@ has_only names (string s) = false
 has_only names (array ds) = false
 has_only names (object ms) = are_named names ms
 
--- a whole number below a limit
 abbrev pub below : ℕ → Data → Option ℕ
 below limit d = do
   n ← option_and_then as_u64 (as_number d)
   only_if (nat_lt n limit) (Some n)
 
--- a whole number from the least to the most
 abbrev pub between : ℕ → ℕ → Data → Option ℕ
 between least most d = do
   n ← option_and_then as_u64 (as_number d)
@@ -53,7 +49,6 @@ each f (item d ds) = do
   xs ← each f ds
   Some (x ∷ xs)
 
--- a list, and then what is spelled
 abbrev pub then_one : {A : Type 0} → List A → Option A → Option (List A)
 then_one xs spelled = option_map (λ x. xs ++ x ∷ []) spelled
 

@@ -30,24 +30,20 @@ use Rattle.calvin_stock.specs.declared.reply.StockReply.{StockReply}
 use Rattle.calvin_stock.specs.declared.reply.StockReply.TheVariants.{Done, Limit, Exists, NoItem, NoCustomer, OrderExists, Short, Ordered, NothingOpen, Poor, Settled, Cents}
 use Rattle.calvin_stock.specs.StockRows.{customer_key, item_key, order_key, item_at, order_at}
 
--- a reply, and the writes
 abbrev pub Outcome : Type 0
 Outcome = StockReply × List (Key × StockRow)
 
--- nothing is written
 abbrev pub told : StockReply → Outcome
 told reply = (reply, [])
 
 -- ---- items
 
--- a new item
 abbrev pub add_item : ℕ → ℕ → ℕ → Option StockRow → Outcome
 add_item i s c there =
     if nat_lt MOST_PIECES s || nat_lt MOST_CENTS c then told Limit
     else (if is_some there then told Exists
     else (Done, (item_key i, row.Item (record { stock = s; price = c })) ∷ []))
 
--- more pieces of an item
 abbrev pub restock : ℕ → ℕ → Option Item → Outcome
 restock i s None = told NoItem
 restock i s (Some item) =
@@ -56,37 +52,31 @@ restock i s (Some item) =
 
 -- ---- customers
 
--- a new customer
 abbrev pub open_customer : ℕ → Option StockRow → Outcome
 open_customer u there =
     if is_some there then told Exists
     else (Done, (customer_key u, row.Customer (record { balance = 0; last_order = None })) ∷ [])
 
--- cents for a customer
 abbrev pub pay_in : ℕ → ℕ → Option Customer → Outcome
 pay_in u c None = told NoCustomer
 pay_in u c (Some customer) =
     if nat_lt MOST_CENTS (customer.balance + c) then told Limit
     else (Done, (customer_key u, row.Customer (record { balance = customer.balance + c; last_order = customer.last_order })) ∷ [])
 
--- a balance
 abbrev pub tell_balance : Option Customer → Outcome
 tell_balance None = told NoCustomer
 tell_balance (Some customer) = told (Cents customer.balance)
 
 -- ---- orders
 
--- why a line can't be delivered, if it can't
 abbrev pub line_fault : Line → Option Item → Option StockReply
 line_fault l None = Some NoItem
 line_fault l (Some item) = if nat_lt item.stock l.pieces then Some Short else None
 
--- and why the first of the lines that can't be can't
 abbrev pub first_fault : List Line → Rows StockRow → Option StockReply
 first_fault [] rows = None
 first_fault (l ∷ ls) rows = option_or (line_fault l (item_at rows l.item)) (first_fault ls rows)
 
--- the cents of a line, and of all lines
 abbrev pub cost : Line → Option Item → ℕ
 cost l None = 0
 cost l (Some item) = l.pieces * item.price
@@ -95,7 +85,6 @@ abbrev pub total_of : List Line → Rows StockRow → ℕ
 total_of [] rows = 0
 total_of (l ∷ ls) rows = cost l (item_at rows l.item) + total_of ls rows
 
--- the item as a line leaves it, and the write of it
 abbrev pub left : Line → Option Item → Item
 left l None = record { stock = 0; price = 0 }
 left l (Some item) = record { stock = item.stock - l.pieces; price = item.price }
@@ -118,7 +107,6 @@ abbrev pub unless_fault : Option StockReply → Outcome → Outcome
 unless_fault None outcome = outcome
 unless_fault (Some fault) outcome = told fault
 
--- an order
 abbrev pub place : Order → Rows StockRow → Option Customer → Outcome
 place o rows None = told NoCustomer
 place o rows (Some customer) =
@@ -143,7 +131,6 @@ abbrev pub settle_last : ℕ → Rows StockRow → Customer → Option ℕ → O
 settle_last u rows customer None = told NothingOpen
 settle_last u rows customer (Some o) = settle_order u customer o (order_at rows o)
 
--- the payment of a customer's last order
 abbrev pub settle : ℕ → Rows StockRow → Option Customer → Outcome
 settle u rows None = told NoCustomer
 settle u rows (Some customer) = settle_last u rows customer customer.last_order

@@ -24,20 +24,16 @@ use Rattle.calvin_stock.specs.declared.reply.StockReply.{StockReply}
 use Rattle.calvin_stock.specs.StockRows.{customer_key, item_key, order_key, customer_at, item_at}
 use Rattle.calvin_stock.specs.Operations.{Outcome, add_item, restock, open_customer, pay_in, tell_balance, place, settle}
 
--- the keys of the items of lines
 abbrev pub item_keys : List Line → List Key
 item_keys lines = map (λ l. item_key l.item) lines
 
--- the keys of an order: its items, itself and its customer
 abbrev pub order_keys : Order → List Key
 order_keys o = insert_all (item_keys o.lines ++ order_key o.number ∷ customer_key o.customer ∷ []) []
 
--- the number of a customer's last order, if there is one
 abbrev pub last_order : Option Customer → Option ℕ
 last_order None = None
 last_order (Some c) = c.last_order
 
--- the keys of a settlement: the customer, and its last order where there is one
 abbrev pub settle_keys : ℕ → Option ℕ → List Key
 settle_keys u None = customer_key u ∷ []
 settle_keys u (Some o) = insert_key (order_key o) (customer_key u ∷ [])
@@ -46,7 +42,6 @@ settle_keys u (Some o) = insert_key (order_key o) (customer_key u ∷ [])
 abbrev pub read_and_written : List Key → Sets
 read_and_written keys = record { reads = keys; writes = keys }
 
--- the keys of a request
 abbrev pub needs_of : StockRequest → Rows StockRow → Sets
 needs_of (request.AddItem i s c) rows = read_and_written (item_key i ∷ [])
 needs_of (request.Restock i s) rows = read_and_written (item_key i ∷ [])
@@ -56,12 +51,10 @@ needs_of (request.Order o) rows = read_and_written (order_keys o)
 needs_of (request.Settle u) rows = read_and_written (settle_keys u (last_order (customer_at rows u)))
 needs_of (request.Balance u) rows = record { reads = customer_key u ∷ []; writes = [] }
 
--- whether they may depend on rows
 abbrev pub is_dependent : StockRequest → Bool
 is_dependent (request.Settle u) = true
 is_dependent _ = false
 
--- the reply to a request, and what it writes
 abbrev pub outcome_of : StockRequest → Rows StockRow → Outcome
 outcome_of (request.AddItem i s c) rows = add_item i s c (get rows (item_key i))
 outcome_of (request.Restock i s) rows = restock i s (item_at rows i)
@@ -71,6 +64,5 @@ outcome_of (request.Order o) rows = place o rows (customer_at rows o.customer)
 outcome_of (request.Settle u) rows = settle u rows (customer_at rows u)
 outcome_of (request.Balance u) rows = tell_balance (customer_at rows u)
 
--- what the application needs and does
 abbrev pub stock : Meaning StockRequest StockRow StockReply
 stock = record { needs = needs_of; outcome = outcome_of }

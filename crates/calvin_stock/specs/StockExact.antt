@@ -1,4 +1,4 @@
--- Requests, rows and replies of Stock that compare equal are the same.
+-- Lemmas: requests, rows and replies of Stock that compare equal are the same.
 --     rows_exact      rows
 --     requests_exact      requests
 --     replies_exact      replies
@@ -61,14 +61,12 @@ bools_exact false true h = absurd (false≢true h)
 placed_exact : (a b : Placed) → placed_impl.ghosts.eq a b ≡ true → a ≡ b
 placed_exact a b h = λ i. record { customer = eqb-true a.customer b.customer (first _ _ h) i; total = eqb-true a.total b.total (first _ _ (second _ _ h)) i; settled = bools_exact a.settled b.settled (second _ _ (second _ _ h)) i }
 
--- rows that compare equal are the same
 pub rows_exact : (a b : StockRow) → row_impl.ghosts.eq a b ≡ true → a ≡ b
 rows_exact (row.Customer a) (row.Customer b) h = ap row.Customer (customer_exact a b h)
 rows_exact (row.Item a) (row.Item b) h = ap row.Item (item_exact a b h)
 rows_exact (row.Order a) (row.Order b) h = ap row.Order (placed_exact a b h)
 rows_exact _ _ h = absurd (false≢true h)
 
--- requests that compare equal are the same
 pub requests_exact : (a b : StockRequest) → request_impl.ghosts.eq a b ≡ true → a ≡ b
 requests_exact (request.AddItem i s c) (request.AddItem j t d) h = λ k. request.AddItem (eqb-true i j (first _ _ h) k) (eqb-true s t (first _ _ (second _ _ h)) k) (eqb-true c d (second _ _ (second _ _ h)) k)
 requests_exact (request.Restock i s) (request.Restock j t) h = λ k. request.Restock (eqb-true i j (first _ _ h) k) (eqb-true s t (second _ _ h) k)
@@ -79,7 +77,6 @@ requests_exact (request.Settle u) (request.Settle w) h = ap request.Settle (eqb-
 requests_exact (request.Balance u) (request.Balance w) h = ap request.Balance (eqb-true u w h)
 requests_exact _ _ h = absurd (false≢true h)
 
--- replies that compare equal are the same
 pub replies_exact : (a b : StockReply) → reply_impl.ghosts.eq a b ≡ true → a ≡ b
 replies_exact reply.Done reply.Done h = refl
 replies_exact reply.Limit reply.Limit h = refl

@@ -121,11 +121,9 @@ kept a v k h = writes_within a v k h
 
 -- ---- sets follow from their own reads
 
--- where no row is known, no order is a customer's last one
 pub last_order_first : (u : ℕ) → last_order (customer_at (finmap.empty {R = key_cmp}) u) ≡ None
 last_order_first u = ap (λ (r : Option StockRow). last_order (as_customer r)) (finmap.get-empty key_cmp (customer_key u))
 
--- a settlement needs its customer
 pub has-settle : (u : ℕ) (last : Option ℕ) → has (settle_keys u last) (customer_key u) ≡ true
 has-settle u None = ap (λ b. b || false) (same_key-self (customer_key u))
 has-settle u (Some o) = has-insert_key (customer_key u) (order_key o) (customer_key u ∷ []) ∙ ap (λ b. same_key (customer_key u) (order_key o) || (b || false)) (same_key-self (customer_key u)) ∙ go (same_key (customer_key u) (order_key o)) where
@@ -178,7 +176,6 @@ length-order : (u o : ℕ) (lines : List Line) → length (item_keys lines ++ or
 length-order u o [] = refl
 length-order u o (l ∷ ls) = omega (arith, length-order u o ls)
 
--- an order has at most four lines
 pub at_most_four : (o : Order) → length o.lines ≤ 4
 at_most_four o = leb-true (length o.lines) 4 (second _ _ (first _ _ (first _ _ o.in_range)))
 
@@ -213,7 +210,6 @@ writes_bounded (request.PayIn u c) v = one_bounded (customer_key u) (lit≤ tt)
 writes_bounded (request.Order o) v = order_bounded o
 writes_bounded (request.Settle u) v = settle_bounded u (last_order (customer_at v u))
 
--- it keeps the laws of applications
 pub stock_lawful : IsLawful stock is_dependent 6 3
 stock_lawful = record {
   writes_within_the_sets = kept;

@@ -12,7 +12,6 @@ use Rattle.calvin_stock.specs.declared.rows.Placed.{Placed}
 use Rattle.calvin_stock.specs.declared.rows.StockRow.{StockRow}
 use Rattle.calvin_stock.specs.declared.rows.StockRow.TheVariants as row
 
--- the keys of customers, items and orders
 abbrev pub customer_key : ℕ → Key
 customer_key u = record { table = 1; id = u }
 
@@ -35,7 +34,6 @@ abbrev pub as_order : Option StockRow → Option Placed
 as_order (Some (row.Order p)) = Some p
 as_order _ = None
 
--- what stands under a number
 abbrev pub customer_at : Rows StockRow → ℕ → Option Customer
 customer_at rows u = as_customer (get rows (customer_key u))
 

@@ -25,13 +25,11 @@ use Rattle.calvin_stock.specs.declared.reply.StockReply.{StockReply}
 use Rattle.calvin_stock.specs.declared.reply.StockReply.TheVariants.{Done, Ordered}
 use Rattle.calvin_stock.specs.StockRows.{item_at}
 
--- the cents of a row: a customer's balance, a settled order's total
 abbrev pub cents_of : StockRow → ℕ
 cents_of (row.Customer c) = c.balance
 cents_of (row.Order p) = if p.settled then p.total else 0
 cents_of (row.Item i) = 0
 
--- all balances, and the totals of all settled orders
 abbrev pub cents_in : Rows StockRow → ℕ
 cents_in rows = sum_by (λ (e : Key × StockRow). cents_of e.1) (entries rows)
 
@@ -43,7 +41,6 @@ stock_of (Some i) = i.stock
 abbrev pub stock_at : Rows StockRow → ℕ → ℕ
 stock_at rows i = stock_of (item_at rows i)
 
--- the pieces of the lines of an item
 abbrev pub pieces_of : ℕ → List Line → ℕ
 pieces_of i [] = 0
 pieces_of i (l ∷ ls) = (if l.item == i then l.pieces else 0) + pieces_of i ls
@@ -62,7 +59,6 @@ abbrev pub ordered_one : ℕ → StockRequest → Answer StockReply → ℕ
 ordered_one i (request.Order o) (answer.Reply (Ordered total)) = pieces_of i o.lines
 ordered_one i a b = 0
 
--- what each request of a list comes to by its answer, together
 abbrev pub along : (StockRequest → Answer StockReply → ℕ) → List (Txn StockRequest) → List (Answer StockReply) → ℕ
 along one [] answers = 0
 along one (t ∷ ts) [] = 0

@@ -4,8 +4,8 @@
 --     Replica B      the data of one replica, by role
 --     Letters B      what is sent in one step: nothing, one message to one replica, or one to all
 --     Deed B      a refusal, or the data after the step, what is sent, and the batch that the learner gives for a slot, if any
---     handle size me from message x      what replica me of a group of this size makes of a message
---     propose size me slot batch x      what it makes of a batch to propose
+--     handle size from message x      what a replica of a group of this size makes of a message that the replica `from` sent
+--     propose me slot batch x      what replica me makes of a batch to propose
 --     restart x      what it is after a restart
 --     fresh      what it is at first
 use Rattle.std.specs.Prelude.{ℕ, Bool, true, false, ◌+◌, ◌^◌, Option, Some, None, nat_lt, if◌then◌else◌, max}
@@ -20,7 +20,6 @@ use Rattle.calvin_synod.specs.declared.message.Message.{Message}
 use Rattle.calvin_synod.specs.declared.message.Message.TheVariants.{Prepare, Promise, Accept, Refused, Accepted}
 use Rattle.calvin_synod.specs.Roles.{Records, promise_at, vote_at, bars_prepare, bars_accept, promised, voted, Proposing, batch_of, current, with_report, is_enough, counting, sending, next_ballot, started, refused_at, Learning, knows, completes, learned}
 
--- which slot a message is about
 abbrev pub slot_of : {B : Type 0} → Message B → Slot
 slot_of (Prepare slot ballot) = slot
 slot_of (Promise slot ballot vote) = slot
@@ -33,19 +32,16 @@ abbrev pub message_grows : {B : Type 0} → Message B → Bool
 message_grows (Refused slot ballot promise) = false
 message_grows _ = true
 
--- the data of one replica, by role
 pub record Replica (B : Type 0) : Type 0 where
   pub acceptor : Records B
   pub proposer : Proposing B
   pub learner : Learning
 
--- nothing, one message to one replica, or one to all
 pub data Letters (B : Type 0) : Type 0 where
   Silent : Letters B
   ToOne : (to : ℕ) (message : Message B) → Letters B
   ToAll : (message : Message B) → Letters B
 
--- a refusal, or the data after the step, what is sent, and the batch that the learner gives for a slot
 pub data Deed (B : Type 0) : Type 0 where
   Refuses : Fault → Deed B
   Does : Replica B → Letters B → Option (Slot × B) → Deed B

@@ -7,20 +7,16 @@ use Rattle.std.specs.Prelude.{◌≡◌, ℕ, ◌+◌, ◌/◌, ◌<◌, ◌≤�
 use Rattle.std.specs.List.{list_any, IsDistinct}
 use Rattle.calvin_types.specs.declared.place.Ballot.{Ballot}
 
--- the replica is among these
 abbrev pub IsIn : ℕ → List ℕ → Type 0
 IsIn a replicas = list_any (nat_eq a) replicas ≡ true
 
--- how many replicas are a majority of a group of this size
 abbrev pub majority : ℕ → ℕ
 majority size = size / 2 + 1
 
--- distinct replicas of a group of this size, and more than half of it
 pub record IsMajority (size : ℕ) (replicas : List ℕ) : Type 0 where
   pub distinct : IsDistinct nat_eq replicas
   pub within : (a : ℕ) → IsIn a replicas → a < size
   pub enough : majority size ≤ length replicas
 
--- for one ballot, a majority cast votes for the batch
 abbrev pub IsChosen : {B : Type 0} → ℕ → (ℕ → Ballot → B → Type 0) → B → Type 0
 IsChosen size Cast batch = (ballot : Ballot) × (voters : List ℕ) × IsMajority size voters × ((a : ℕ) → IsIn a voters → Cast a ballot batch)

@@ -33,7 +33,6 @@ use Rattle.calvin_synod.specs.declared.attempt.Attempt.{Attempt}
 use Rattle.calvin_synod.specs.declared.tallies.Proposal.{Proposal}
 use Rattle.calvin_synod.specs.Quorums.{majority}
 
--- what is recorded of each slot, over restarts
 abbrev pub Records : Type 0 → Type 0
 Records B = FinMap slot_cmp (Recorded B)
 
@@ -45,11 +44,9 @@ abbrev pub vote_in : {B : Type 0} → Option (Recorded B) → Option (Vote B)
 vote_in None = None
 vote_in (Some r) = r.vote
 
--- a slot's promise, if there is one
 abbrev pub promise_at : {B : Type 0} → Records B → Slot → Option Ballot
 promise_at records slot = promise_in (get records slot)
 
--- a slot's vote, if there is one
 abbrev pub vote_at : {B : Type 0} → Records B → Slot → Option (Vote B)
 vote_at records slot = vote_in (get records slot)
 
@@ -83,7 +80,6 @@ higher None w = w
 higher (Some v) None = Some v
 higher (Some v) (Some w) = if is_lt (ballot_cmp v.ballot w.ballot) then Some w else Some v
 
--- the vote of the greatest ballot that is reported
 abbrev pub highest : {B : Type 0} → List (Report B) → Option (Vote B)
 highest [] = None
 highest (report ∷ reports) = higher report.vote (highest reports)
@@ -92,7 +88,6 @@ abbrev pub batch_or : {B : Type 0} → B → Option (Vote B) → B
 batch_or own None = own
 batch_or own (Some vote) = vote.batch
 
--- what is to be accepted: the batch of the highest vote reported, else the own one
 abbrev pub batch_of : {B : Type 0} → B → List (Report B) → B
 batch_of own reports = batch_or own (highest reports)
 
@@ -115,7 +110,6 @@ current p from slot ballot = if_counts (get p.attempts slot) from ballot
 abbrev pub with_report : {B : Type 0} → Attempt B → ℕ → Option (Vote B) → List (Report B)
 with_report attempt from vote = attempt.counted ++ record { from = from; vote = vote } ∷ []
 
--- with one report more it has a majority
 abbrev pub is_enough : {B : Type 0} → ℕ → Attempt B → Bool
 is_enough size attempt = nat_le (majority size) (length attempt.counted + 1)
 
@@ -131,7 +125,6 @@ started me p slot batch = record {
   attempts = insert p.attempts slot (record { ballot = next_ballot me p; own = batch; counted = [] });
 }
 
--- with one report more
 abbrev pub counting : {B : Type 0} → Proposing B → Slot → Attempt B → ℕ → Option (Vote B) → Proposing B
 counting p slot attempt from vote = record p { attempts = insert p.attempts slot (record attempt { counted = with_report attempt from vote }) }
 
@@ -162,7 +155,6 @@ pub record Learning : Type 0 where
   pub counted : FinMap proposal_cmp (List ℕ)
   pub given : FinMap slot_cmp Ballot
 
--- whose votes are counted for a slot and a ballot
 abbrev pub voters_of : Learning → Slot → Ballot → List ℕ
 voters_of l slot ballot = unwrap_or (get l.counted (record { slot = slot; ballot = ballot })) []
 
@@ -170,7 +162,6 @@ voters_of l slot ballot = unwrap_or (get l.counted (record { slot = slot; ballot
 abbrev pub knows : Learning → ℕ → Slot → Ballot → Bool
 knows l from slot ballot = is_some (get l.given slot) || list_any (nat_eq from) (voters_of l slot ballot)
 
--- one vote more makes a majority
 abbrev pub completes : ℕ → Learning → Slot → Ballot → Bool
 completes size l slot ballot = nat_le (majority size) (length (voters_of l slot ballot) + 1)
 

@@ -16,12 +16,10 @@ use Rattle.calvin_synod.specs.declared.tallies.Proposal.{Proposal}
 use Rattle.calvin_synod.specs.Quorums.{majority}
 use Rattle.calvin_synod.specs.Roles.{Records, Proposing, Learning, proposal_cmp}
 
--- what is kept by slot, and how many more slots are sure to find room
 pub record BySlot (V : Type 0) : Type 0 where
   pub entries : FinMap slot_cmp V
   pub room : ℕ
 
--- whose votes are counted, and how many more proposals are sure to find room
 pub record Tallied : Type 0 where
   pub counted : FinMap proposal_cmp (List ℕ)
   pub room : ℕ
@@ -44,7 +42,6 @@ pub record LearnerState : Type 0 where
   pub learning : Learning
   pub ready : Bool
 
--- what is changed, unless a promise stands in the way
 abbrev pub unless : {X : Type 0} → Option Ballot → X → X → X
 unless None changed same = changed
 unless (Some bar) changed same = same

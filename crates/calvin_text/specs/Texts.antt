@@ -62,13 +62,11 @@ module _ {Reply : Type 0} (show : Reply → List ℕ) where
   abbrev pub line : Place → RequestId → Answer Reply → List ℕ
   line p id a = place_text p ++ codes " " ++ id_text id ++ codes " " ++ answer_text a ++ codes "\n"
 
-  -- a line for each request with its answer
   abbrev pub lines : {Args : Type 0} → Order Args → List (Answer Reply) → List ℕ
   lines [] answers = []
   lines (e ∷ es) [] = []
   lines (e ∷ es) (a ∷ answers) = line e.0 e.1.id a ++ lines es answers
 
--- the last of so many epochs
 abbrev pub finished : ℕ → List ℕ
 finished zero = codes "finished none\n"
 finished (suc e) = codes "finished " ++ decimal e ++ codes "\n"

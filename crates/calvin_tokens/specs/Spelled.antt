@@ -42,7 +42,6 @@ abbrev pub key_or_end : Option (List ℕ) → Token
 key_or_end None = Token.end_object
 key_or_end (Some name) = Token.key name
 
--- the member of this name joined those that were found, and what was gathered of all is x
 pub record MemberRead {A : Type 0} (holds : Members → A → Type 0) (deep : ℕ) (found : Members) (name : List ℕ) (ts : List Token) (x : A) (rest : List Token) : Type 0 where
   pub piece : Data
   pub reads : Reads deep ts piece rest

@@ -1,4 +1,4 @@
--- Tests of equality that tell values apart.
+-- Lemmas: tests of equality that tell values apart.
 --     first, second, both      the parts of a joined test
 --     pointwise_exact, option_exact      lists and options of what a test tells apart are told apart
 use Rattle.std.specs.Prelude.{◌≡◌, Bool, true, false, ◌&&◌, List, [], ◌∷◌, Option, Some, None, refl}
@@ -30,7 +30,6 @@ module _ {T : Type 0} (E : T → T → Bool) (exact : (a b : T) → E a b ≡ tr
   pointwise_exact (x ∷ xs) [] h = absurd (false≢true h)
   pointwise_exact (x ∷ xs) (y ∷ ys) h = λ i. exact x y (first (E x y) (pointwise E xs ys) h) i ∷ pointwise_exact xs ys (second (E x y) (pointwise E xs ys) h) i
 
-  -- and so are options
   pub option_exact : (a b : Option T) → option_eq E a b ≡ true → a ≡ b
   option_exact None None h = refl
   option_exact None (Some y) h = absurd (false≢true h)

@@ -7,25 +7,20 @@ use Rattle.std.specs.Prelude.{◌≡◌, ℕ, ◌-◌, ◌≤◌, List, [], ◌�
 use Rattle.calvin_types.specs.declared.key.Key.{Key}
 use Rattle.calvin_types.specs.declared.limits.TheConstants.{MOST_KEYS}
 
--- tables and numbers in pairs
 abbrev pub paired : List ℕ → List ℕ → List Key
 paired [] ids = []
 paired (t ∷ ts) [] = []
 paired (t ∷ ts) (i ∷ is) = record { table = t; id = i } ∷ paired ts is
 
--- the first keys, so many
 abbrev pub keys_of : List ℕ → List ℕ → ℕ → List Key
 keys_of tables ids size = take size (paired tables ids)
 
--- the tables of keys, and zero up to sixteen
 abbrev pub tables_of : List Key → List ℕ
 tables_of ks = map (λ k. k.table) ks ++ replicate (MOST_KEYS - length ks) 0
 
--- the numbers of keys, and zero up to sixteen
 abbrev pub ids_of : List Key → List ℕ
 ids_of ks = map (λ k. k.id) ks ++ replicate (MOST_KEYS - length ks) 0
 
--- the places are those of at most sixteen keys
 pub record IsKeyList (tables ids : List ℕ) (size : ℕ) : Type 0 where
   pub at_most : size ≤ MOST_KEYS
   pub size_is : length (keys_of tables ids size) ≡ size

@@ -6,12 +6,10 @@ use Rattle.std.specs.List.{insert}
 use Rattle.calvin_types.specs.declared.key.Key.{Key}
 use Rattle.calvin_types.specs.Keys.{has, insert_key}
 
--- the key is among the keys, so that adding it changes nothing
 pub record IsThere (key : Key) (keys : List Key) : Type 0 where
   pub there : has keys key ≡ true
   pub insert_is : insert_key key keys ≡ keys
 
--- the key is missing, and would stand at this place
 pub record IsMissingAt (key : Key) (keys : List Key) (i : ℕ) : Type 0 where
   pub within : i ≤ length keys
   pub missing : has keys key ≡ false

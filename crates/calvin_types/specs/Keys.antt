@@ -17,40 +17,32 @@ use Rattle.std.specs.List.{list_any}
 use Rattle.calvin_types.specs.declared.key.Key.{Key}
 use Rattle.calvin_types.specs.declared.limits.TheConstants.{MOST_KEYS}
 
--- by table, and then by id
 abbrev pub key_cmp : Key → Key → Ordering
 key_cmp a b = ordering_then (nat_cmp a.table b.table) (nat_cmp a.id b.id)
 
--- whether two keys are one
 abbrev pub same_key : Key → Key → Bool
 same_key a b = is_eq (key_cmp a b)
 
--- whether a key is in a list
 abbrev pub has : List Key → Key → Bool
 has keys k = list_any (eq_by_cmp key_cmp k) keys
 
--- whether a key is below all of a list
 abbrev pub below_all : Key → List Key → Bool
 below_all q [] = true
 below_all q (k ∷ ks) = is_lt (key_cmp q k) && below_all q ks
 
--- whether a list of keys strictly rises
 abbrev pub rises : List Key → Bool
 rises [] = true
 rises (k ∷ ks) = below_all k ks && rises ks
 
--- one of three, as an order says
 abbrev pub by_order : {A : Type 0} → Ordering → A → A → A → A
 by_order Less a b c = a
 by_order Equal a b c = b
 by_order Greater a b c = c
 
--- rising keys with one more in its place, unless it is there
 abbrev pub insert_key : Key → List Key → List Key
 insert_key q [] = q ∷ []
 insert_key q (k ∷ ks) = by_order (key_cmp q k) (q ∷ k ∷ ks) (k ∷ ks) (k ∷ insert_key q ks)
 
--- rising keys with more in their places
 abbrev pub insert_all : List Key → List Key → List Key
 insert_all [] ks = ks
 insert_all (q ∷ qs) ks = insert_all qs (insert_key q ks)

@@ -3,7 +3,6 @@
 use Rattle.std.specs.Prelude.{ℕ, ◌≤◌, ◌<◌}
 use Rattle.calvin_types.specs.declared.limits.TheConstants.{MOST_PARTITIONS, MOST_REPLICAS}
 
--- 1 to 16 partitions and 1 to 7 replicas
 pub record IsInRange (partitions replicas : ℕ) : Type 0 where
   pub some_partition : 0 < partitions
   pub partitions_at_most : partitions ≤ MOST_PARTITIONS

@@ -12,36 +12,28 @@ use Rattle.calvin_types.specs.declared.key.Key.{Key}
 use Rattle.calvin_types.specs.declared.txn.Txn.{Txn}
 use Rattle.calvin_types.specs.Keys.{partition_of}
 
--- one of so many partitions
 pub record Site : Type 0 where
   pub partitions : ℕ
   pub partition : ℕ
 
--- the partition of this number, of so many
 abbrev pub site : ℕ → ℕ → Site
 site partitions partition = record { partitions = partitions; partition = partition }
 
--- whether the site stores a key
 abbrev pub is_local : Site → Key → Bool
 is_local site k = partition_of site.partitions k == site.partition
 
--- the keys that the site stores
 abbrev pub local_keys : Site → List Key → List Key
 local_keys site keys = filter (is_local site) keys
 
 module _ {Args : Type 0} where
-  -- the declared keys: those that are read and those that are written
   abbrev pub declared_keys : Txn Args → List Key
   declared_keys t = t.sets.reads ++ t.sets.writes
 
-  -- a participant stores a declared key
   abbrev pub has_local_key : Site → Txn Args → Bool
   has_local_key site t = list_any (is_local site) (declared_keys t)
 
-  -- the least participant
   abbrev pub is_least : Site → Txn Args → Bool
   is_least site t = has_local_key site t && list_all (λ k. nat_le site.partition (partition_of site.partitions k)) (declared_keys t)
 
-  -- an active participant stores a key that is written, or is the least one
   abbrev pub is_active : Site → Txn Args → Bool
   is_active site t = list_any (is_local site) t.sets.writes || is_least site t

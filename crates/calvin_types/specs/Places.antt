@@ -20,14 +20,11 @@ place_cmp a b = ordering_then (nat_cmp a.epoch b.epoch) (nat_cmp a.n b.n)
 abbrev pub slot_cmp : Slot → Slot → Ordering
 slot_cmp a b = ordering_then (nat_cmp a.epoch b.epoch) (nat_cmp a.group b.group)
 
--- by round, and then by replica
 abbrev pub ballot_cmp : Ballot → Ballot → Ordering
 ballot_cmp a b = ordering_then (nat_cmp a.round b.round) (nat_cmp a.replica b.replica)
 
--- by replica, and then by partition
 abbrev pub node_cmp : NodeId → NodeId → Ordering
 node_cmp a b = ordering_then (nat_cmp a.replica b.replica) (nat_cmp a.partition b.partition)
 
--- one place comes before another
 abbrev pub IsBefore : Place → Place → Type 0
 IsBefore a b = place_cmp a b ≡ Less

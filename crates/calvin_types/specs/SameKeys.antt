@@ -6,11 +6,9 @@ use Rattle.std.specs.Cmp.Lexicographic.{pointwise}
 use Rattle.calvin_types.specs.declared.key.Key.{Key}
 use Rattle.calvin_types.specs.declared.key_set.Sets.{Sets}
 
--- whether two keys are the same
 abbrev pub equal_keys : Key → Key → Bool
 equal_keys a b = (a.table == b.table) && (a.id == b.id)
 
--- whether two lists of keys are the same, one by one
 abbrev pub same_keys : List Key → List Key → Bool
 same_keys = pointwise equal_keys
 

@@ -14,15 +14,12 @@ use Rattle.calvin_types.specs.KeyOrder.{key_cmp_exact, same_key-self}
 use Rattle.calvin_types.specs.Keys.{key_cmp, same_key}
 use Rattle.calvin_types.specs.SameKeys.{equal_keys, same_keys}
 
--- keys for which the test holds are one
 pub equal_keys_exact : (a b : Key) → equal_keys a b ≡ true → a ≡ b
 equal_keys_exact a b h = λ i. record { table = eqb-true a.table b.table (first _ _ h) i; id = eqb-true a.id b.id (second (a.table == b.table) _ h) i }
 
--- it holds for each key and itself
 pub equal_keys_self : (a : Key) → equal_keys a a ≡ true
 equal_keys_self a = (λ i. eq-eqb a.table a.table refl i && eq-eqb a.id a.id refl i)
 
--- by their fields two keys are one exactly where they are by their order
 pub equal_keys_is_same_key : (a b : Key) → equal_keys a b ≡ same_key a b
 equal_keys_is_same_key a b =
     one_answer (equal_keys a b) (same_key a b)
@@ -36,7 +33,6 @@ turned a b true p false q = absurd (false≢true (sym q ∙ ap (λ x. equal_keys
 turned a b false p true q = absurd (false≢true (sym p ∙ ap (λ x. equal_keys a x) (equal_keys_exact b a q) ∙ equal_keys_self a))
 turned a b false p false q = p ∙ sym q
 
--- both tests are equivalences
 pub equal_keys_equiv : IsEquivalence equal_keys
 equal_keys_equiv = record {
   refl = equal_keys_self;

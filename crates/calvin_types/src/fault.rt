@@ -6,7 +6,7 @@ use std::alloc::{AllocError, AllocFailed};
 use thiserror::Error;
 
 /// Why a call was refused. Unless the call says otherwise, a refusal leaves the value that it was asked of as it was.
-/// Programs tell refusals apart by their numbers; a message has the number and the name.
+/// Programs tell refusals apart by their numbers; shown as an error, one has its name alone.
 #[derive(Clone, Copy, Debug, PartialEq, Eq, Error)]
 #[error("{}", self.name())]
 pub enum Fault {
