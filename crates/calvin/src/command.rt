@@ -27,7 +27,10 @@ The script comes on standard input, as JSON of at most 1,048,576 bytes:
   TXN  {\"client\":7,\"number\":1,\"op\":OP}, and where wanted \"attempt\":1,
        and \"reads\":[KEY, ..],\"writes\":[KEY, ..], both or neither
   KEY  [table,id]
-  OP   [\"put\",k,v], [\"get\",[k, ..]] or [\"add\",k,d]
+  OP   of kv: [\"put\",k,v], [\"get\",[k, ..]], [\"add\",k,d], [\"move\",a,b,n],
+       [\"follow\",k]; of stock: [\"additem\",i,s,c], [\"restock\",i,s],
+       [\"open\",u], [\"payin\",u,c], [\"order\",u,o,[[i,q], ..]], [\"settle\",u],
+       [\"balance\",u]
 
 Each request is answered by a line `epoch.n client:number answer`, in the merged
 order of all groups; the last line is `finished` and the last epoch, or none.
