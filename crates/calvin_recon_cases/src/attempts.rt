@@ -26,7 +26,9 @@ fn issuer_attempts(rt: HostRuntime) -> Result<(), Fail> {
         let sets = reads(attempt as u64);
         match issuer.after(&changed, sets)? {
             Next::Again(txn) => {
-                assert!(rt; txn.id == id && txn.attempt == attempt && txn.args == 9 && txn.sets == sets);
+                assert!(rt;
+                    txn.id == id && txn.attempt == attempt && txn.args == 9 && txn.sets == sets
+                );
                 assert!(rt; issuer.txn() == txn);
             }
             Next::Done => assert!(rt; false, "attempt {attempt}"),

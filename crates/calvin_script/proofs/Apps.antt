@@ -15,10 +15,10 @@ tested false x c e = absurd (cc)
 
 named_at : {Args : Type 0} (wanted : List ℕ) (test : Bool) (partitions : Option ℕ) (name : Option (List ℕ)) (epochs : Option (List (List (Listed Args)))) (c : Contents Args)
     → only_if test (do
-        p ← partitions
-        a ← name
-        e ← epochs
-        only_if (bytes_eq a wanted) (script_of p e)) ≡ Some c
+      p ← partitions
+      a ← name
+      e ← epochs
+      only_if (bytes_eq a wanted) (script_of p e)) ≡ Some c
     → (a : List ℕ) × (name ≡ Some a) × (bytes_eq a wanted ≡ true)
 named_at wanted false partitions name epochs c e = absurd (cc)
 named_at wanted true None name epochs c e = absurd (cc)

@@ -72,12 +72,12 @@ unfoldable pub stock_operation : Data → Option StockRequest
 stock_operation d = do
   name ← option_and_then as_str (at 0 d)
   if bytes_eq name (codes "additem") then additem d
-    else (if bytes_eq name (codes "restock") then restock d
-    else (if bytes_eq name (codes "open") then open_of d
-    else (if bytes_eq name (codes "payin") then payin d
-    else (if bytes_eq name (codes "order") then option_map request.Order (order d)
-    else (if bytes_eq name (codes "settle") then settle d
-    else only_if (bytes_eq name (codes "balance")) (balance d))))))
+      else (if bytes_eq name (codes "restock") then restock d
+      else (if bytes_eq name (codes "open") then open_of d
+      else (if bytes_eq name (codes "payin") then payin d
+      else (if bytes_eq name (codes "order") then option_map request.Order (order d)
+      else (if bytes_eq name (codes "settle") then settle d
+      else only_if (bytes_eq name (codes "balance")) (balance d))))))
 
 abbrev pub stock_grammar : Grammar StockRequest
 stock_grammar = record { app_name = codes "stock"; operation = λ _ d. stock_operation d; first_needs = λ a. stock.needs a finmap.empty; completed = as_declared }

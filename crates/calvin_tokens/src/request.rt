@@ -83,7 +83,10 @@ impl<Op: OperationTokens> RequestMembers<Op> {
         if self.seen.reads || self.seen.writes || self.request.txn.has_key() {
             return None;
         }
-        self.request.txn.args.add_first_sets(&mut self.request.txn.sets);
+        self.request
+            .txn
+            .args
+            .add_first_sets(&mut self.request.txn.sets);
         Some(())
     }
 }

@@ -11,7 +11,7 @@ returns-then-eq-clause-scouted g c =
     let more : 16 - c.loop-look._look ≡ suc n = omega arith in
     let is : c.sets-next.result ≡ next m c.args.args.now rows c.loop-look.sets = c.sets-next.ensures ∙ ap (m.needs c.args.args.now) c.look_up.ensures in
     sym (sym c.loop-look.invariant ∙ ap (λ k. scouted m c.args.args.now rows k c.loop-look.sets) more
-        ∙ scouted_found m c.args.args.now rows n c.loop-look.sets c.sets-next.result is (sym c.eq.ensures ∙ c.if-eq.true))
+    ∙ scouted_found m c.args.args.now rows n c.loop-look.sets c.sets-next.result is (sym c.eq.ensures ∙ c.if-eq.true))
 
 pub returns-then-eq-clause-agree : goal.returns-then-eq-clause-agree
 returns-then-eq-clause-agree g c =
