@@ -1,0 +1,112 @@
+//! Drawn scripts.
+use rand_core::utils::NextWord;
+use rand_pcg::Pcg32;
+use std::alloc::{AllocError, Global};
+
+/// A number below `below`, which isn't 0.
+pub fn draw(generator: &mut Pcg32, below: u32) -> u32 {
+    generator.next_word().checked_rem(below).unwrap_or(0)
+}
+
+/// A number of one to twenty digits.
+fn number(generator: &mut Pcg32) -> u64 {
+    let edges = [0, 9, 4095, 4294967295, 9999999999999999999, 18446744073709551615];
+    match edges.get(draw(generator, 20) as usize) {
+        Some(&edge) => edge,
+        None => draw(generator, 4096) as u64,
+    }
+}
+
+/// The texts with commas between, in a drawn order.
+fn joined(generator: &mut Pcg32, alloc: Global, texts: &[String]) -> Result<String, AllocError> {
+    let mut all = String::new(alloc);
+    let first = draw(generator, 8) as usize;
+    for i in 0..texts.len() {
+        if 0 < i {
+            all.push_str(",")?;
+        }
+        let turned = i.wrapping_add(first).checked_rem(texts.len()).unwrap_or(0);
+        match texts.get(turned) {
+            Some(text) => all.push_str(text.as_str())?,
+            None => {}
+        }
+    }
+    Ok(all)
+}
+
+/// Keys that differ, each after one text and before another.
+fn keys(generator: &mut Pcg32, alloc: Global, before: &str, after: &str) -> Result<String, AllocError> {
+    let mut all = Vec::new(alloc);
+    let mut key = draw(generator, 100);
+    for _ in 0..draw(generator, 5) {
+        key = key.wrapping_add(draw(generator, 50)).wrapping_add(1);
+        all.push(format!(in alloc; "{before}{key}{after}")?)?;
+    }
+    joined(generator, alloc, all.as_slice())
+}
+
+fn operation(generator: &mut Pcg32, alloc: Global) -> Result<String, AllocError> {
+    let (first, second) = (number(generator), number(generator));
+    match draw(generator, 3) {
+        0 => format!(in alloc; r#""op":["put",{first},{second}]"#),
+        1 => format!(in alloc; r#""op":["add",{first},{second}]"#),
+        _ => {
+            let keys = keys(generator, alloc, "", "")?;
+            format!(in alloc; r#""op":["get",[{keys}]]"#)
+        }
+    }
+}
+
+/// A request with its members in a drawn order. Its declared sets have a key.
+fn request(generator: &mut Pcg32, alloc: Global) -> Result<String, AllocError> {
+    let mut members = Vec::new(alloc);
+    let (client, number) = (draw(generator, 1000), draw(generator, 1000));
+    members.push(format!(in alloc; r#""client":{client}"#)?)?;
+    members.push(format!(in alloc; r#""number":{number}"#)?)?;
+    members.push(operation(generator, alloc)?)?;
+    if draw(generator, 2) == 0 {
+        let attempt = draw(generator, 8).wrapping_add(1);
+        members.push(format!(in alloc; r#""attempt":{attempt}"#)?)?;
+    }
+    let reads = keys(generator, alloc, "[0,", "]")?;
+    members.push(format!(in alloc; r#""reads":[{reads}]"#)?)?;
+    let writes = keys(generator, alloc, "[3,", "]")?;
+    let comma = if writes.is_empty() { "" } else { "," };
+    members.push(format!(in alloc; r#""writes":[{writes}{comma}[7,1]]"#)?)?;
+    let members = joined(generator, alloc, members.as_slice())?;
+    format!(in alloc; "{{{members}}}")
+}
+
+/// A batch of a few requests, with its members in a drawn order.
+fn batch(generator: &mut Pcg32, alloc: Global, group: u32) -> Result<String, AllocError> {
+    let mut requests = Vec::new(alloc);
+    for _ in 0..draw(generator, 4) {
+        requests.push(request(generator, alloc)?)?;
+    }
+    let requests = joined(generator, alloc, requests.as_slice())?;
+    let mut members = Vec::new(alloc);
+    members.push(format!(in alloc; r#""group":{group}"#)?)?;
+    members.push(format!(in alloc; r#""txns":[{requests}]"#)?)?;
+    let members = joined(generator, alloc, members.as_slice())?;
+    format!(in alloc; "{{{members}}}")
+}
+
+/// A script of a few batches of the groups 0 and 1, with its members in a drawn order.
+pub fn script(generator: &mut Pcg32, alloc: Global) -> Result<String, AllocError> {
+    let mut epochs = Vec::new(alloc);
+    for _ in 0..draw(generator, 3) {
+        let mut batches = Vec::new(alloc);
+        for group in 0..draw(generator, 3) {
+            batches.push(batch(generator, alloc, group)?)?;
+        }
+        let batches = joined(generator, alloc, batches.as_slice())?;
+        epochs.push(format!(in alloc; "[{batches}]")?)?;
+    }
+    let epochs = joined(generator, alloc, epochs.as_slice())?;
+    let mut members = Vec::new(alloc);
+    members.push(format!(in alloc; r#""partitions":2"#)?)?;
+    members.push(format!(in alloc; r#""app":"kv""#)?)?;
+    members.push(format!(in alloc; r#""epochs":[{epochs}]"#)?)?;
+    let members = joined(generator, alloc, members.as_slice())?;
+    format!(in alloc; "{{{members}}}")
+}
