@@ -31,7 +31,10 @@ fn scripts_of_any_order(rt: HostRuntime) {
         r#"{"partitions":2,"app":"kv","epochs":[[{"group":1,"txns":[],"group":0}]]}"#,
     ] {
         assert!(rt; is_usual(rt.alloc(), text), "{text}");
-        assert!(rt; script_from::<KvRequest>(rt.alloc(), text.as_bytes()).is_ok(), "{text}");
+        assert!(rt;
+            script_from::<KvRequest>(rt.alloc(), text.as_bytes()).is_ok(),
+            "{text}"
+        );
     }
 }
 
@@ -82,11 +85,26 @@ fn refused_scripts(rt: HostRuntime) -> Result<(), Fail> {
         (two.as_str(), Fault::BadJson),
         (open.as_str(), Fault::BadJson),
         ("[]", Fault::BadScript),
-        (r#"{"partitions":1,"app":"vk","epochs":[]}"#, Fault::BadScript),
-        (r#"{"partitions":1.0,"app":"kv","epochs":[]}"#, Fault::BadScript),
-        (r#"{"partitions":-1,"app":"kv","epochs":[]}"#, Fault::BadScript),
-        (r#"{"partitions":17,"app":"kv","epochs":[]}"#, Fault::BadScript),
-        (r#"{"partitions":1,"app":"kv","epochs":[[{"group":1,"txns":[]}]]}"#, Fault::BadScript),
+        (
+            r#"{"partitions":1,"app":"vk","epochs":[]}"#,
+            Fault::BadScript,
+        ),
+        (
+            r#"{"partitions":1.0,"app":"kv","epochs":[]}"#,
+            Fault::BadScript,
+        ),
+        (
+            r#"{"partitions":-1,"app":"kv","epochs":[]}"#,
+            Fault::BadScript,
+        ),
+        (
+            r#"{"partitions":17,"app":"kv","epochs":[]}"#,
+            Fault::BadScript,
+        ),
+        (
+            r#"{"partitions":1,"app":"kv","epochs":[[{"group":1,"txns":[]}]]}"#,
+            Fault::BadScript,
+        ),
     ] {
         assert!(rt; !is_usual(rt.alloc(), text), "{text}");
         match script_from::<KvRequest>(rt.alloc(), text.as_bytes()) {

@@ -80,6 +80,9 @@ fn changed_scripts(rt: HostRuntime) -> Result<(), Fail> {
             all = all.wrapping_add(1);
         }
     }
-    assert!(rt; 100 < usual && usual <= scripts && scripts < all, "{usual} of {scripts} of {all}");
+    assert!(rt;
+        100 < usual && usual <= scripts && scripts < all,
+        "{usual} of {scripts} of {all}"
+    );
     Ok(())
 }

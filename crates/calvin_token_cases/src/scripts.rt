@@ -10,7 +10,14 @@ pub fn draw(generator: &mut Pcg32, below: u32) -> u32 {
 
 /// A number of one to twenty digits.
 fn number(generator: &mut Pcg32) -> u64 {
-    let edges = [0, 9, 4095, 4294967295, 9999999999999999999, 18446744073709551615];
+    let edges = [
+        0,
+        9,
+        4095,
+        4294967295,
+        9999999999999999999,
+        18446744073709551615,
+    ];
     match edges.get(draw(generator, 20) as usize) {
         Some(&edge) => edge,
         None => draw(generator, 4096) as u64,
@@ -35,7 +42,12 @@ fn joined(generator: &mut Pcg32, alloc: Global, texts: &[String]) -> Result<Stri
 }
 
 /// Keys that differ, each after one text and before another.
-fn keys(generator: &mut Pcg32, alloc: Global, before: &str, after: &str) -> Result<String, AllocError> {
+fn keys(
+    generator: &mut Pcg32,
+    alloc: Global,
+    before: &str,
+    after: &str,
+) -> Result<String, AllocError> {
     let mut all = Vec::new(alloc);
     let mut key = draw(generator, 100);
     for _ in 0..draw(generator, 5) {
