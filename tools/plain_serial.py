@@ -137,13 +137,22 @@ class Stock:
 APPS = {"kv": Kv, "stock": Stock}
 
 
-class Run:
-    """The serial run of a script, one request after another."""
+MOST_LOOKS = 16
 
-    def __init__(self, app):
+
+class Run:
+    """The serial run of a script, one request after another; where it scouts, with `--scout`."""
+
+    def __init__(self, app, scouts=False):
         self.app = APPS[app]
+        self.scouts = scouts
         self.rows = {}
+        self.rows_before = {}
         self.counts = collections.Counter()
+
+    def begin_epoch(self):
+        """Keeps the rows as they stand before the epoch that begins."""
+        self.rows_before = dict(self.rows)
 
     def first_sets(self, op):
         """The sets where no row is known."""
@@ -152,6 +161,17 @@ class Run:
     def sets(self, op):
         """The sets of the rows as they are now."""
         return self.app.needs(op, self.rows.get)
+
+    def scouted_sets(self, op):
+        """The sets that are found over the rows before the epoch."""
+        sets = self.first_sets(op)
+        for _ in range(MOST_LOOKS):
+            seen = {key: self.rows_before[key] for key in sets[0] if key in self.rows_before}
+            more = self.app.needs(op, seen.get)
+            if more == sets:
+                return sets
+            sets = more
+        raise ValueError(f"72 Unsettled: {op}")
 
     def answer(self, txn):
         reads, writes = self.declared(txn)
@@ -166,22 +186,29 @@ class Run:
         return answer
 
     def declared(self, txn):
+        """The sets that a request has."""
         if "reads" in txn:
             return tuple(sorted(tuple(key) for key in txn[name]) for name in ("reads", "writes"))
-        return self.first_sets(txn["op"])
+        return self.scouted_sets(txn["op"]) if self.scouts else self.first_sets(txn["op"])
+
+    def is_found(self, txn):
+        """Whether its sets are others than the first ones because they were scouted."""
+        return "reads" not in txn and self.declared(txn) != self.first_sets(txn["op"])
 
     def epoch(self, number, batches):
         """The lines of an epoch."""
+        self.begin_epoch()
         listed = sorted(batches, key=lambda batch: batch["group"])
         for n, txn in enumerate(txn for batch in listed for txn in batch["txns"]):
             answer = self.answer(txn)
-            self.counts[answer.split(" ", maxsplit=1)[0]] += 1
+            word = answer.split(" ", maxsplit=1)[0]
+            self.counts[f"scouted {word}" if self.is_found(txn) else word] += 1
             yield f"{number}.{n} {txn['client']}:{txn['number']} {answer}\n"
 
 
-def text_of(script):
-    """What the program has to print for a script of the right form."""
-    run = Run(script["app"])
+def text_of(script, scouts=False):
+    """What the program has to print for a script of the right form, with `--scout` where it scouts."""
+    run = Run(script["app"], scouts)
     lines = [line for number, batches in enumerate(script["epochs"]) for line in run.epoch(number, batches)]
     last = len(script["epochs"]) - 1
     return "".join(lines) + (f"finished {last}\n" if last >= 0 else "finished none\n"), run.counts

@@ -1,19 +1,20 @@
 //! The command line, and how a command ends.
 
-ghost use Rattle.std.specs.Prelude.{◌≡◌, ◌≢◌, ◌+◌, ◌↔◌, map, codes, IfOk, IsTrue, Some, ◌⊎◌};
-ghost use Rattle.clap.specs.Words.{app_of, subcommand_name_of};
+ghost use Rattle.std.specs.Prelude.{◌≡◌, ◌≢◌, ◌+◌, ◌↔◌, map, codes, false, IfOk, IfSome, IsSome, Some, ◌⊎◌};
+ghost use Rattle.clap.specs.declared.builder.command.Command.TheViews.{out-Command as fields_of};
+ghost use Rattle.clap.specs.Words.{app_of, rule_of, found_of, rows_of, subcommand_name_of, subcommand_rows_of};
 ghost use Rattle.calvin_edge.specs.Complaints.{complaint};
 ghost use Rattle.calvin_serial.specs.Engine.{serial_text};
 ghost use Rattle.calvin.specs.Ends.{Tells, LeavesDevices, RunsEngine};
-ghost use Rattle.calvin.specs.Line.{calvin, IsTaken, IsSerialLine, IsHelpLine, IsBadLine, HasHelpWord, IsPlainSerialLine, IsRun, IsSerial, IsHelp, IsRefused};
+ghost use Rattle.calvin.specs.Line.{scout_flag, serial_app, calvin, IsTaken, IsSerialLine, IsHelpLine, IsBadLine, HasHelpWord, IsPlainSerialLine, IsScoutLine, has_scout, sets_of, sets_asked, IsRun, IsSerial, IsHelp, IsRefused};
 ghost use Rattle.calvin.specs.Statuses.{IsStatus};
 
 use crate::ending::{end_with, refuse_line};
 use calvin_edge::{Sink, Source, write_all};
-use calvin_serial::serial;
+use calvin_serial::{UndeclaredSets, serial};
 use calvin_types::Fault;
 use clap::error::ErrorKind;
-use clap::{ArgMatches, Command, Error};
+use clap::{Arg, ArgAction, ArgMatches, Command, Error};
 use std::alloc::{AllocError, Global};
 use std::convert::AsStr;
 
@@ -50,7 +51,8 @@ At 2, 4 and 5 standard error has one line that says why.
 
 /// What a command line asks for.
 enum Wish {
-    Serial,
+    /// The serial run, where requests that declare no sets have these.
+    Serial(UndeclaredSets),
     /// Help was asked for, and this is its text.
     Help(Error),
 }
@@ -61,13 +63,33 @@ enum Refusal {
     OutOfMemory,
 }
 
+/// The flag `--scout`.
+fn scout_flag<'a>(alloc: Global) -> Arg<'a>
+    ensures rule { rule_of result ≡ scout_flag }
+    ensures local { result.global ≡ false }
+{
+    Arg::new(alloc, "scout")
+        .long("scout")
+        .action(ArgAction::SetTrue)
+        .help("Finds undeclared sets over the rows as they stand before the epoch")
+}
+
+/// The subcommand `serial`.
+fn serial_line<'a>(alloc: Global) -> Result<Command<'a>, AllocError>
+    ensures app { IfOk result (λ c. app_of c ≡ serial_app) }
+    ensures local { IfOk result (λ c. (fields_of c).has_globals ≡ false) }
+{
+    Command::new(alloc, "serial")
+        .about("Runs a script one request at a time and prints what each was answered")
+        .after_help(SCRIPT_HELP)
+        .arg(scout_flag(alloc))
+}
+
 /// The program's command line.
 fn line<'a>(alloc: Global) -> Result<Command<'a>, AllocError>
     ensures { IfOk result (λ c. app_of c ≡ calvin) }
 {
-    let serial = Command::new(alloc, "serial")
-        .about("Runs a script one request at a time and prints what each was answered")
-        .after_help(SCRIPT_HELP);
+    let serial = serial_line(alloc)?;
     Command::new(alloc, "calvin")
         .about("Calvin: a deterministic, partitioned, replicated transaction store")
         .after_help(STATUS_HELP)
@@ -75,18 +97,31 @@ fn line<'a>(alloc: Global) -> Result<Command<'a>, AllocError>
         .subcommand(serial)
 }
 
-fn asks_serial(matches: &ArgMatches<'_>) -> bool
-    ensures { IsTrue result ↔ (subcommand_name_of matches.now ≡ Some (codes "serial")) }
+/// Whether the flag `--scout` was found. Its value is read as text, of which clap's clauses say exactly what it is.
+fn has_scout(serial: &ArgMatches<'_>) -> bool
+    ensures { result ≡ has_scout (rows_of (found_of serial.now)) }
 {
-    match matches.subcommand_name() {
-        Some(name) => name == "serial",
+    match serial.get_str("scout") {
+        Some(value) => value == "true",
         None => false,
     }
 }
 
+/// The undeclared sets that are asked for, where `serial` is.
+fn sets_asked(matches: &ArgMatches<'_>) -> Option<UndeclaredSets>
+    ensures named { IsSome result ↔ (subcommand_name_of matches.now ≡ Some (codes "serial")) }
+    ensures sets { IfSome result (λ sets. sets ≡ sets_of (subcommand_rows_of matches.now)) }
+{
+    let serial = matches.subcommand_matches("serial")?;
+    if has_scout(serial) {
+        return Some(UndeclaredSets::Scouted);
+    }
+    Some(UndeclaredSets::First)
+}
+
 fn parse<'a, W: AsStr>(alloc: Global, words: &'a [W]) -> Result<Wish, Refusal>
     ensures only { IsRun result → IsSerialLine (map W.text words.entry.now) }
-    ensures serial { IsSerialLine (map W.text words.entry.now) → IsSerial result }
+    ensures serial { IsSerialLine (map W.text words.entry.now) → IsSerial (sets_asked (map W.text words.entry.now)) result }
     ensures help { IsHelpLine (map W.text words.entry.now) → IsHelp result }
     ensures bad { IsBadLine (map W.text words.entry.now) → IsRefused result }
 {
@@ -94,12 +129,10 @@ fn parse<'a, W: AsStr>(alloc: Global, words: &'a [W]) -> Result<Wish, Refusal>
         return Err(Refusal::OutOfMemory);
     };
     match command.try_get_matches_from(words) {
-        Ok(matches) => {
-            if !asks_serial(&matches) {
-                return Err(Refusal::BadLine);
-            }
-            Ok(Wish::Serial)
-        }
+        Ok(matches) => match sets_asked(&matches) {
+            Some(sets) => Ok(Wish::Serial(sets)),
+            None => Err(Refusal::BadLine),
+        },
         Err(e) => match e.kind() {
             ErrorKind::DisplayHelp => Ok(Wish::Help(e)),
             ErrorKind::OutOfMemory => Err(Refusal::OutOfMemory),
@@ -112,6 +145,7 @@ fn parse<'a, W: AsStr>(alloc: Global, words: &'a [W]) -> Result<Wish, Refusal>
 #[tactic(auto, using(crate::proofs::Endings::serial_status))]
 fn run_serial<S: Source, K: Sink, E: Sink>(
     alloc: Global,
+    sets: UndeclaredSets,
     input: &mut S,
     output: &mut K,
     error: &mut E,
@@ -136,9 +170,9 @@ fn run_serial<S: Source, K: Sink, E: Sink>(
           told = E.taken;
           tell_failures = E.failures;
         })
-        input.old input.new output.old output.new error.old error.new result serial_text }
+        input.old input.new output.old output.new error.old error.new result (serial_text sets) }
 {
-    match serial(alloc, input, output) {
+    match serial(alloc, sets, input, output) {
         Ok(()) => 0,
         Err(fault) => end_with(fault, error),
     }
@@ -146,7 +180,7 @@ fn run_serial<S: Source, K: Sink, E: Sink>(
 
 /// Runs a command line, and answers its status: 0 where all went well, 2 where the line or the script is refused, 4 for
 /// want of memory, 5 where a device failed. The line on standard error may fail to be written; the status stays.
-#[tactic(auto, using(crate::proofs::Named::is_taken_line, crate::proofs::Words::is_plain_line, crate::proofs::Helped::is_covered))]
+#[tactic(auto, using(crate::proofs::Named::is_taken_line, crate::proofs::Words::is_plain_line, crate::proofs::Words::is_scout_line, crate::proofs::Helped::is_covered))]
 pub fn command<W: AsStr, S: Source, K: Sink, E: Sink>(
     alloc: Global,
     words: &[W],
@@ -155,9 +189,13 @@ pub fn command<W: AsStr, S: Source, K: Sink, E: Sink>(
     error: &mut E,
 ) -> u8
     ensures statuses { IsStatus result }
-    // A line that clap takes is for `serial`, and `calvin serial` is such a line.
+    // A line that clap takes is for `serial`; `calvin serial` is such a line, and asks for the first sets, and
+    // `calvin serial --scout` is one that asks for scouted ones.
     ensures taken { IsTaken (map W.text words.now) → IsSerialLine (map W.text words.now) }
-    ensures plain { IsPlainSerialLine (map W.text words.now) → IsSerialLine (map W.text words.now) }
+    ensures plain { IsPlainSerialLine (map W.text words.now)
+        → IsSerialLine (map W.text words.now) × (sets_asked (map W.text words.now) ≡ UndeclaredSets.First) }
+    ensures scout { IsScoutLine (map W.text words.now)
+        → IsSerialLine (map W.text words.now) × (sets_asked (map W.text words.now) ≡ UndeclaredSets.Scouted) }
     // A line without the word `help` is such a line, a call for help or a bad line.
     ensures covered { ¬ HasHelpWord (map W.text words.now) → ¬ IsSerialLine (map W.text words.now)
         → ¬ IsHelpLine (map W.text words.now) → IsBadLine (map W.text words.now) }
@@ -179,7 +217,7 @@ pub fn command<W: AsStr, S: Source, K: Sink, E: Sink>(
           tell_failures = E.failures;
         })
         input.old input.new output.old output.new error.old error.new result }
-    // `serial` writes the text for the script, or refuses it.
+    // `serial` writes the text for the script with the sets that are asked for, or refuses it.
     ensures serial { IsSerialLine (map W.text words.now)
         → RunsEngine
         (record {
@@ -190,10 +228,10 @@ pub fn command<W: AsStr, S: Source, K: Sink, E: Sink>(
           told = E.taken;
           tell_failures = E.failures;
         })
-        input.old input.new output.old output.new error.old error.new result serial_text }
+        input.old input.new output.old output.new error.old error.new result (serial_text (sets_asked (map W.text words.now))) }
 {
     match parse(alloc, words) {
-        Ok(Wish::Serial) => run_serial(alloc, input, output, error),
+        Ok(Wish::Serial(sets)) => run_serial(alloc, sets, input, output, error),
         Ok(Wish::Help(help)) => print_help(alloc, &help, output, error),
         Err(Refusal::BadLine) => refuse_line(error),
         Err(Refusal::OutOfMemory) => end_with(Fault::OutOfMemory, error),

@@ -40,6 +40,12 @@ fn prints(rt: &impl Abort, alloc: Global, script: &str, text: &str) {
     runs(rt, alloc, &["calvin", "serial"], script, 0, text, "");
 }
 
+/// Runs a script with `--scout`, and compares what it prints.
+fn scouts(rt: &impl Abort, alloc: Global, script: &str, text: &str) {
+    let words = ["calvin", "serial", "--scout"];
+    runs(rt, alloc, &words, script, 0, text, "");
+}
+
 fn refuses(rt: &impl Abort, alloc: Global, script: &str, told: &str) {
     runs(rt, alloc, &["calvin", "serial"], script, 2, "", told);
 }
@@ -106,14 +112,39 @@ fn answers_of_several_epochs(rt: HostRuntime) {
 }
 
 #[test]
+fn changed_then_again(rt: HostRuntime) {
+    let script =
+        r#"{"partitions":1,"app":"kv","epochs":[[{"group":0,"txns":[{"client":7,"number":1,"op":["put",1,5]}]}],[{"group":0,"txns":[{"client":7,"number":2,"op":["put",1,6]},{"client":7,"number":3,"op":["follow",1]}]}],[{"group":0,"txns":[{"client":7,"number":3,"op":["follow",1],"attempt":2}]}]]}"#;
+    let text = "0.0 7:1 done\n1.0 7:2 done\n1.1 7:3 changed\n2.0 7:3 none\nfinished 2\n";
+    scouts(&rt, rt.alloc(), script, text);
+    let text = "0.0 7:1 done\n1.0 7:2 done\n1.1 7:3 changed\n2.0 7:3 changed\nfinished 2\n";
+    prints(&rt, rt.alloc(), script, text);
+}
+
+#[test]
+fn scouted_settle(rt: HostRuntime) {
+    let script =
+        r#"{"partitions":2,"app":"stock","epochs":[[{"group":0,"txns":[{"client":7,"number":1,"op":["additem",1,5,300]},{"client":7,"number":2,"op":["open",4]},{"client":7,"number":3,"op":["payin",4,1000]},{"client":7,"number":4,"op":["order",4,8,[[1,3]]]}]}],[{"group":0,"txns":[{"client":7,"number":5,"op":["settle",4]},{"client":7,"number":6,"op":["balance",4]}]}]]}"#;
+    let text =
+        "0.0 7:1 done\n0.1 7:2 done\n0.2 7:3 done\n0.3 7:4 ordered 900\n1.0 7:5 settled 900\n1.1 7:6 cents 100\nfinished 1\n";
+    scouts(&rt, rt.alloc(), script, text);
+    let text =
+        "0.0 7:1 done\n0.1 7:2 done\n0.2 7:3 done\n0.3 7:4 ordered 900\n1.0 7:5 changed\n1.1 7:6 cents 1000\nfinished 1\n";
+    prints(&rt, rt.alloc(), script, text);
+}
+
+#[test]
 fn bad_lines(rt: HostRuntime) {
-    let lines: [&[&str]; 11] = [
+    let lines: [&[&str]; 14] = [
         &["calvin"],
         &["calvin", "parallel"],
         &["calvin", "check"],
         &["calvin", "sim"],
         &["calvin", "run", "--workers", "4"],
-        &["calvin", "serial", "--scout"],
+        &["calvin", "--scout"],
+        &["calvin", "--scout", "serial"],
+        &["calvin", "serial", "--scout", "--scout"],
+        &["calvin", "serial", "--scout=true"],
         &["calvin", "serial", "script.json"],
         &["calvin", "serial", "serial"],
         &["calvin", "--version"],
@@ -163,7 +194,7 @@ fn help_is_shown(rt: HostRuntime) {
     helps(&rt, alloc, &["calvin", "--help"], &parts);
     helps(&rt, alloc, &["calvin", "-h"], &parts);
     helps(&rt, alloc, &["calvin", "help"], &parts);
-    let parts = ["partitions", "finished", "calvin --help"];
+    let parts = ["partitions", "finished", "--scout", "calvin --help"];
     helps(&rt, alloc, &["calvin", "serial", "--help"], &parts);
     helps(&rt, alloc, &["calvin", "help", "serial"], &parts);
 }

@@ -1,6 +1,7 @@
 -- The proof that Kv keeps the laws of applications.
 --     followed_first      where no row is known, a key alone is followed
 --     kv_lawful      it keeps them
+--     kv_settles      the first reads show all rows that its sets depend on
 use Rattle.std.specs.Prelude.{◌≡◌, ℕ, zero, suc, ◌+◌, ◌-◌, ◌^◌, ◌==◌, Bool, true, false, ◌||◌, nat_lt, if◌then◌else◌, List, [], ◌∷◌, map, take, Option, Some, None, unwrap_or, refl}
 use Rattle.std.specs.List.{filter}
 use Rattle.std.specs.FinMap as finmap
@@ -8,8 +9,8 @@ use Rattle.std.specs.declared.cmp.Ordering.TheVariants.{Less, Equal, Greater}
 use Rattle.std.proofs.Common.{lit≤, arith, cond, sym, ap, ◌∙◌}
 use Rattle.std.proofs.lemmas.Bool.{eqb-true, false≢true}
 use Rattle.std.proofs.lemmas.List.{length-take}
+use Rattle.calvin_types.specs.declared.limits.TheConstants.{MOST_KEYS}
 use Rattle.calvin_types.specs.declared.key.Key.{Key}
-use Rattle.calvin_types.specs.declared.key_set.Sets.{Sets}
 use Rattle.calvin_types.specs.Keys.{key_cmp, has, same_key, by_order}
 use Rattle.calvin_types.specs.KeyOrder.{same_key-self}
 use Rattle.calvin_types.proofs.KeySets.{has-insert_key}
@@ -20,7 +21,7 @@ use Rattle.calvin_app.specs.declared.kv.KvReply.TheVariants.{Done, Limit, Short}
 use Rattle.calvin_app.specs.Kv.{key_of, asked, pair_of, followed, needs_of, is_dependent, sum_outcome, outcome_of, kv}
 use Rattle.calvin_app.specs.Rows.{Rows, view}
 use Rattle.calvin_app.specs.RowLaws.{get-seen}
-use Rattle.calvin_app.specs.Meaning.{IsLawful, IsBounded, AllUpTo}
+use Rattle.calvin_app.specs.Meaning.{IsLawful, IsBounded, AllUpTo, SettlesAtOnce}
 
 pub followed_first : (id : ℕ) → followed id (finmap.get (finmap.empty {R = key_cmp}) (key_of id)) ≡ followed id None
 followed_first id = ap (followed id) (finmap.get-empty key_cmp (key_of id))
@@ -74,10 +75,10 @@ needs_follow (Add id amount) rows = refl
 needs_follow (Move from to amount) rows = refl
 needs_follow (Follow id) rows = ap (λ (o : Option ℕ). record { reads = followed id o; writes = [] }) (get-seen rows _ (key_of id) (has-followed id (finmap.get rows (key_of id))))
 
-one_bounded : (id : ℕ) → IsBounded 16 0 (key_of id ∷ [])
+one_bounded : (id : ℕ) → IsBounded MOST_KEYS 0 (key_of id ∷ [])
 one_bounded id = record { number = lit≤ tt; tables = (lit≤ tt, tt) }
 
-none_bounded : IsBounded 16 0 []
+none_bounded : IsBounded MOST_KEYS 0 []
 none_bounded = record { number = lit≤ tt; tables = tt }
 
 tables-take : (n : ℕ) (ks : List Key) → AllUpTo 0 ks → AllUpTo 0 (take n ks)
@@ -91,38 +92,38 @@ tables-filter (k ∷ ks) = go (k.table == 0) refl (tables-filter ks) where
   go true is rest = (omega (arith, eqb-true k.table 0 is), rest)
   go false is rest = rest
 
-asked_bounded : (keys : List Key) → IsBounded 16 0 (asked keys)
+asked_bounded : (keys : List Key) → IsBounded MOST_KEYS 0 (asked keys)
 asked_bounded keys = record {
-  number = omega (arith, length-take 16 (filter (λ k. k.table == 0) keys));
-  tables = tables-take 16 _ (tables-filter keys);
+  number = omega (arith, length-take MOST_KEYS (filter (λ k. k.table == 0) keys));
+  tables = tables-take MOST_KEYS _ (tables-filter keys);
 }
 
-pair_bounded : (a b : ℕ) → IsBounded 16 0 (pair_of a b)
-pair_bounded a b = elim (key_cmp (key_of b) (key_of a)) as (λ o. IsBounded 16 0 (by_order o (key_of b ∷ key_of a ∷ []) (key_of a ∷ []) (key_of a ∷ key_of b ∷ []))) [
+pair_bounded : (a b : ℕ) → IsBounded MOST_KEYS 0 (pair_of a b)
+pair_bounded a b = elim (key_cmp (key_of b) (key_of a)) as (λ o. IsBounded MOST_KEYS 0 (by_order o (key_of b ∷ key_of a ∷ []) (key_of a ∷ []) (key_of a ∷ key_of b ∷ []))) [
   | Less ↦ record { number = lit≤ tt; tables = (lit≤ tt, (lit≤ tt, tt)) }
   | Equal ↦ record { number = lit≤ tt; tables = (lit≤ tt, tt) }
   | Greater ↦ record { number = lit≤ tt; tables = (lit≤ tt, (lit≤ tt, tt)) }
 ]
 
-followed_bounded : (id : ℕ) (named : Option ℕ) → IsBounded 16 0 (followed id named)
+followed_bounded : (id : ℕ) (named : Option ℕ) → IsBounded MOST_KEYS 0 (followed id named)
 followed_bounded id None = one_bounded id
 followed_bounded id (Some other) = pair_bounded id other
 
-reads_bounded : (a : KvRequest) (v : Rows ℕ) → IsBounded 16 0 (needs_of a v).reads
+reads_bounded : (a : KvRequest) (v : Rows ℕ) → IsBounded MOST_KEYS 0 (needs_of a v).reads
 reads_bounded (Put id value) v = none_bounded
 reads_bounded (Get keys) v = asked_bounded keys
 reads_bounded (Add id amount) v = one_bounded id
 reads_bounded (Move from to amount) v = pair_bounded from to
 reads_bounded (Follow id) v = followed_bounded id (finmap.get v (key_of id))
 
-writes_bounded : (a : KvRequest) (v : Rows ℕ) → IsBounded 16 0 (needs_of a v).writes
+writes_bounded : (a : KvRequest) (v : Rows ℕ) → IsBounded MOST_KEYS 0 (needs_of a v).writes
 writes_bounded (Put id value) v = one_bounded id
 writes_bounded (Get keys) v = none_bounded
 writes_bounded (Add id amount) v = one_bounded id
 writes_bounded (Move from to amount) v = pair_bounded from to
 writes_bounded (Follow id) v = none_bounded
 
-pub kv_lawful : IsLawful kv is_dependent 16 0
+pub kv_lawful : IsLawful kv is_dependent MOST_KEYS 0
 kv_lawful = record {
   writes_within_the_sets = writes_within;
   sets_follow_from_their_reads = needs_follow;
@@ -131,3 +132,10 @@ kv_lawful = record {
   bounded_writes = writes_bounded;
   at_most_sixteen = lit≤ tt;
 }
+
+pub kv_settles : SettlesAtOnce kv
+kv_settles (Put id value) rows = refl
+kv_settles (Get keys) rows = refl
+kv_settles (Add id amount) rows = refl
+kv_settles (Move from to amount) rows = refl
+kv_settles (Follow id) rows = ap (λ (o : Option ℕ). record { reads = followed id o; writes = [] }) (get-seen rows _ (key_of id) (has-followed id (finmap.get finmap.empty (key_of id))))

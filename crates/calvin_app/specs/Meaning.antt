@@ -4,8 +4,10 @@
 --     AllUpTo top keys      no key is in a table above top
 --     IsBounded most_keys top_table keys      no more keys than the limit, and none in a table above the top one
 --     IsLawful m dependent most_keys top_table      the laws of applications
+--     SettlesAtOnce m      the sets that are needed of what the first reads show are those that are needed of all rows
 --     IsExact eq      values that compare equal are the same
 use Rattle.std.specs.Prelude.{◌≡◌, ℕ, ◌≤◌, Bool, true, false, List, [], ◌∷◌, length, map}
+use Rattle.std.specs.FinMap.{empty}
 use Rattle.calvin_types.specs.declared.key.Key.{Key}
 use Rattle.calvin_types.specs.declared.key_set.Sets.{Sets}
 use Rattle.calvin_types.specs.Keys.{has}
@@ -39,6 +41,10 @@ pub record IsLawful {Args Row Reply : Type 0} (m : Meaning Args Row Reply) (depe
   pub bounded_reads : (args : Args) (v : Rows Row) → IsBounded most_keys top_table (m.needs args v).reads
   pub bounded_writes : (args : Args) (v : Rows Row) → IsBounded most_keys top_table (m.needs args v).writes
   pub at_most_sixteen : most_keys ≤ MOST_KEYS
+
+-- the first reads, which are needed where no row is known, show all rows that the sets depend on
+abbrev pub SettlesAtOnce : {Args Row Reply : Type 0} → Meaning Args Row Reply → Type 0
+SettlesAtOnce {Args} {Row} m = (args : Args) (rows : Rows Row) → m.needs args (view rows (m.needs args empty).reads) ≡ m.needs args rows
 
 abbrev pub IsExact : {T : Type 0} → (T → T → Bool) → Type 0
 IsExact {T} eq = (a b : T) → eq a b ≡ true → a ≡ b

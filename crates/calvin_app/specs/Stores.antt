@@ -1,6 +1,7 @@
 -- What a keeper knows of the rows of its partition (Thomson et al. 2012, sections 3, 4 and 5). A keeper that holds all
 -- rows in memory and opens no point has `loaded rows`. Points are for a keeper that is copied while requests go on, cold
--- keys for one with rows on disk: no keeper has them yet, and what they mean is said here once for all.
+-- keys for one that moves rows to a second, cold table (section 4: rows on disk): no keeper has them yet, and what they
+-- mean is said here once for all. What a key reads is the same whether it is cold or not.
 use Rattle.std.specs.Prelude.{Bool, ◌&&◌, not, List, Option, Some, None, is_some, if◌then◌else◌}
 use Rattle.std.specs.FinMap.{empty, get, insert, retain_keys}
 use Rattle.std.specs.FinSet.{FinSet}
@@ -17,7 +18,7 @@ pub record Point (Row : Type 0) : Type 0 where
   pub at : Place
   pub rows : Rows Row
 
--- the row of each key, the point that is open, and the keys whose row lies on disk alone
+-- the row of each key, the point that is open, and the keys whose row lies in the cold table
 pub record Store (Row : Type 0) : Type 0 where
   pub map : Rows Row
   pub point : Option (Point Row)
@@ -54,14 +55,14 @@ module _ {Row : Type 0} where
   abbrev pub closed_upto : Place → Store Row → Store Row
   closed_upto q store = record store { point = left_after q store.point }
 
-  -- whether a key has a row in memory: for a keeper with rows on disk, and the scheduler, which runs a request once its rows are there
+  -- whether a key has a row that isn't cold, which can be made cold
   abbrev pub is_hot : Store Row → Key → Bool
   is_hot store k = is_some (get store.map k) && not (is_some (get store.cold k))
 
-  -- the rows of these keys are read into memory
+  -- the rows of these keys come back from the cold table
   abbrev pub warmed : List Key → Store Row → Store Row
   warmed keys store = record store { cold = without store.cold keys }
 
-  -- the row of a key goes to disk
+  -- the row of a key goes to the cold table
   abbrev pub cooled : Key → Store Row → Store Row
   cooled k store = record store { cold = insert store.cold k tt }

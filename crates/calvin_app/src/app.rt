@@ -1,5 +1,5 @@
 //! What an application is.
-ghost use Rattle.std.specs.Prelude.{◌≡◌, ℕ, Bool};
+ghost use Rattle.std.specs.Prelude.{◌≡◌, [], ℕ, Bool};
 ghost use Rattle.std.specs.Mem.{FitsInMemory};
 ghost use Rattle.calvin_app.specs.Meaning.{Meaning, IsLawful, IsExact};
 ghost use Rattle.calvin_app.specs.contracts.view.View.{the_row as the_view_row};
@@ -65,19 +65,22 @@ pub trait App {
     fn run(&self, args: &Self::Args, view: &View<Self::Row>) -> (Self::Reply, Writes<Self::Row>)
         ensures { result ≡ meaning.outcome args.now view.now };
 
-    /// The same as `run`, with the reply in place of an answer that is there, so that a large one needn't be moved.
+    /// The same as `run`, with the reply in place of an answer that is there and the writes put where there are none yet,
+    /// so that large ones needn't be moved.
     fn run_into(
         &self,
         args: &Self::Args,
         view: &View<Self::Row>,
         answer: &mut Answer<Self::Reply>,
-    ) -> Writes<Self::Row>
+        writes: &mut Writes<Self::Row>,
+    )
+        requires { writes.old ≡ [] }
         ensures answer { answer.new ≡ Reply (meaning.outcome args.now view.now).0 }
-        ensures writes { result ≡ (meaning.outcome args.now view.now).1 }
+        ensures writes { writes.new ≡ (meaning.outcome args.now view.now).1 }
     {
-        let (reply, writes) = self.run(args, view);
+        let (reply, all) = self.run(args, view);
         *answer = Answer::Reply(reply);
-        writes
+        *writes = all;
     }
 
     /// The laws of applications.

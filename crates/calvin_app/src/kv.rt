@@ -7,11 +7,12 @@ ghost use Rattle.calvin_app.specs.KvExact.{requests_exact, numbers_exact, replie
 ghost use Rattle.calvin_app.specs.Rows.{Rows};
 ghost use Rattle.calvin_app.specs.declared.answer.Answer.TheVariants.{Reply};
 ghost use Rattle.calvin_app.specs.Kv.{kv, is_dependent, asked, pair_of, followed, moved};
-ghost use Rattle.calvin_app.specs.KvLaws.{kv_lawful};
+ghost use Rattle.calvin_app.specs.KvLaws.{kv_lawful, kv_settles};
 ghost use Rattle.calvin_types.specs.SameKeys.{same_keys};
 
 use crate::answer::Answer;
 use crate::app::App;
+use crate::settles::Settles;
 use crate::view::View;
 use crate::writes::Writes;
 use calvin_types::{Few, Key, KeySet, MOST_KEYS, Sets};
@@ -209,63 +210,72 @@ fn add_asked_values(keys: &KeySet, view: &View<u64>, values: &mut Few<Option<u64
     }
 }
 
-/// What a move replies and writes where the numbers under its two keys are these.
-fn moved(from: u64, to: u64, amount: u64, source: u64, target: u64) -> (KvReply, Writes<u64>)
-    ensures { result ≡ moved from to amount source target }
+/// What a move replies where the numbers under its two keys are these; it adds what it writes.
+fn moved(
+    from: u64,
+    to: u64,
+    amount: u64,
+    source: u64,
+    target: u64,
+    writes: &mut Writes<u64>,
+) -> KvReply
+    requires { writes.old ≡ [] }
+    ensures { (result, writes.new) ≡ moved from to amount source target }
 {
     if source < amount {
-        return (KvReply::Short, Writes::new());
+        return KvReply::Short;
     }
     if from == to {
-        return (KvReply::Done, Writes::new());
+        return KvReply::Done;
     }
     match target.checked_add(amount) {
         Some(sum) => {
-            let mut writes = Writes::of(key_of(from), source - amount);
+            writes.push(key_of(from), source - amount);
             writes.push(key_of(to), sum);
-            (KvReply::Done, writes)
+            KvReply::Done
         }
-        None => (KvReply::Limit, Writes::new()),
+        None => KvReply::Limit,
     }
 }
 
-/// Replies to a request, in place of any answer that stands there, and gives what it writes.
+/// Replies to a request, in place of any answer that stands there, and adds what it writes.
 #[inline(always)]
-fn answer_to(args: &KvRequest, view: &View<u64>, answer: &mut Answer<KvReply>) -> Writes<u64>
+fn answer_to(
+    args: &KvRequest,
+    view: &View<u64>,
+    answer: &mut Answer<KvReply>,
+    writes: &mut Writes<u64>,
+)
+    requires { writes.old ≡ [] }
     ensures answer { answer.new ≡ Reply (kv.outcome args.now view.now).0 }
-    ensures writes { result ≡ (kv.outcome args.now view.now).1 }
+    ensures writes { writes.new ≡ (kv.outcome args.now view.now).1 }
 {
     match args {
         KvRequest::Put(id, value) => {
             *answer = Answer::Reply(KvReply::Done);
-            Writes::of(key_of(*id), *value)
+            writes.push(key_of(*id), *value);
         }
         KvRequest::Get(keys) => {
             *answer = Answer::Reply(KvReply::Values(Few::new()));
             if let Answer::Reply(KvReply::Values(values)) = answer {
                 add_asked_values(keys, view, values);
             }
-            Writes::new()
         }
         KvRequest::Add(id, amount) => {
             let before = view.get(&key_of(*id)).unwrap_or(0);
             match before.checked_add(*amount) {
                 Some(sum) => {
                     *answer = Answer::Reply(KvReply::Value(sum));
-                    Writes::of(key_of(*id), sum)
+                    writes.push(key_of(*id), sum);
                 }
-                None => {
-                    *answer = Answer::Reply(KvReply::Limit);
-                    Writes::new()
-                }
+                None => *answer = Answer::Reply(KvReply::Limit),
             }
         }
         KvRequest::Move(from, to, amount) => {
             let source = view.get(&key_of(*from)).unwrap_or(0);
             let target = view.get(&key_of(*to)).unwrap_or(0);
-            let (reply, writes) = moved(*from, *to, *amount, source, target);
+            let reply = moved(*from, *to, *amount, source, target, writes);
             *answer = Answer::Reply(reply);
-            writes
         }
         KvRequest::Follow(id) => {
             let found = match view.get(&key_of(*id)) {
@@ -273,12 +283,13 @@ fn answer_to(args: &KvRequest, view: &View<u64>, answer: &mut Answer<KvReply>) -
                 None => None,
             };
             *answer = Answer::Reply(KvReply::Found(found));
-            Writes::new()
         }
     }
 }
 
 impl App for Kv {
+    ghost use Rattle.calvin_types.specs.declared.limits.TheConstants.{MOST_KEYS};
+
     type Args = KvRequest;
 
     type Row = u64;
@@ -289,7 +300,7 @@ impl App for Kv {
 
     ghost is_dependent = { is_dependent };
 
-    ghost key_limit = { 16 };
+    ghost key_limit = { MOST_KEYS };
 
     ghost table_limit = { 0 };
 
@@ -335,7 +346,8 @@ impl App for Kv {
 
     fn run(&self, args: &KvRequest, view: &View<u64>) -> (KvReply, Writes<u64>) {
         let mut answer = Answer::Changed;
-        let writes = answer_to(args, view, &mut answer);
+        let mut writes = Writes::new();
+        answer_to(args, view, &mut answer, &mut writes);
         match answer {
             Answer::Reply(reply) => (reply, writes),
             Answer::Changed => unreachable!(),
@@ -347,8 +359,9 @@ impl App for Kv {
         args: &KvRequest,
         view: &View<u64>,
         answer: &mut Answer<KvReply>,
-    ) -> Writes<u64> {
-        answer_to(args, view, answer)
+        writes: &mut Writes<u64>,
+    ) {
+        answer_to(args, view, answer, writes);
     }
 
     ghost lawful = { kv_lawful };
@@ -364,4 +377,8 @@ impl App for Kv {
     ghost rows_exact = { numbers_exact };
 
     ghost replies_exact = { replies_exact };
+}
+
+impl Settles for Kv {
+    ghost settles = { kv_settles };
 }

@@ -10,6 +10,7 @@ use crate::answer::Answer;
 use crate::app::App;
 use crate::table::Table;
 use crate::view::View;
+use crate::writes::Writes;
 use calvin_types::{Fault, Txn};
 use std::alloc::Global;
 use std::marker::Model;
@@ -67,19 +68,21 @@ impl<A: App> Serial<A> {
     {
         let mut seen = View::new();
         let mut answer = Answer::Changed;
-        self.apply_into(txn, &mut seen, &mut answer)?;
+        let mut writes = Writes::new();
+        self.apply_into(txn, &mut seen, &mut answer, &mut writes)?;
         Ok(answer)
     }
 
-    /// Runs one request as `apply` does, in places that the caller keeps for one request after another: what it sees
-    /// and its answer come in place of those that are there, so that large ones needn't be made and moved. Where it is
-    /// refused, any view and any answer may stand there.
+    /// Runs one request as `apply` does, in places that the caller keeps for one request after another: what it sees,
+    /// its answer and what it writes come in place of those that are there, so that large ones needn't be made and
+    /// moved. Where it is refused, any view, answer and writes may stand there.
     #[tactic(auto, unfolding(crate::specs::Serial::answer_on, crate::specs::Serial::writes_on))]
     pub fn apply_into(
         &mut self,
         txn: &Txn<A::Args>,
         seen: &mut View<A::Row>,
         answer: &mut Answer<A::Reply>,
+        writes: &mut Writes<A::Row>,
     ) -> Result<(), Fault>
         ensures answer { OnOk result (answer.new ≡ answer_one A.meaning txn.now self.old) }
         ensures ok { OnOk result (self.new ≡ after_one A.meaning txn.now self.old) }
@@ -93,10 +96,20 @@ impl<A: App> Serial<A> {
         seen.clear();
         self.rows.look_up(&txn.sets.reads, seen);
         if !self.app.needs_only(&txn.args, seen, &txn.sets) {
-            *answer = Answer::Changed;
+            tell_changed(answer);
             return Ok(());
         }
-        let writes = self.app.run_into(&txn.args, seen, answer);
-        self.rows.overwrite(&writes)
+        writes.clear();
+        self.app.run_into(&txn.args, seen, answer, writes);
+        self.rows.overwrite(writes)
     }
+}
+
+/// Puts in place of an answer that the declared sets aren't those that are needed. It stands apart, so that a request
+/// that isn't answered so pays for no answer of its own.
+#[inline(never)]
+fn tell_changed<R: Copy>(answer: &mut Answer<R>)
+    ensures { answer.new ≡ Changed }
+{
+    *answer = Answer::Changed;
 }

@@ -60,6 +60,13 @@ impl<Row: Copy> Writes<Row> {
         Writes { pairs }
     }
 
+    /// Takes all writes out. Only the places that they took are cleared.
+    pub fn clear(&mut self)
+        ensures { self.new ≡ [] }
+    {
+        self.pairs.clear();
+    }
+
     /// How many keys are written.
     pub fn len(&self) -> usize
         ensures len { result ≡ length self.now }

@@ -374,6 +374,7 @@ fn places_used_again(rt: HostRuntime) -> Result<(), Fail> {
     let mut serial = Serial::new(rt.alloc(), Kv);
     let mut seen = View::new();
     let mut answer = Answer::Changed;
+    let mut writes = Writes::new();
     let mut values = Few::new();
     values.push(Some(15));
     values.push(None);
@@ -385,11 +386,11 @@ fn places_used_again(rt: HostRuntime) -> Result<(), Fail> {
         (KvRequest::Get(set(&[3, 4])?), KvReply::Values(values)),
         (KvRequest::Put(3, 0), KvReply::Done),
     ] {
-        serial.apply_into(&declared(args), &mut seen, &mut answer)?;
+        serial.apply_into(&declared(args), &mut seen, &mut answer, &mut writes)?;
         assert!(rt; is_reply(&answer, want), "{args:?}");
     }
     let stale = txn(KvRequest::Add(3, 1), set(&[5])?, set(&[5])?);
-    serial.apply_into(&stale, &mut seen, &mut answer)?;
+    serial.apply_into(&stale, &mut seen, &mut answer, &mut writes)?;
     assert!(rt; answer == Answer::Changed);
     Ok(())
 }

@@ -1,8 +1,8 @@
-//! The worked cases, each public call once, and a table of drawn calls, all for any lock manager: for `ListLocks`, and
-//! for one that searches its list from the end.
+//! The worked cases, each public call once, and tables of drawn calls, all for any lock manager: for `ListLocks`, for
+//! `QueueLocks`, and for one that searches its list from the end.
 use crate::kv::set;
 use crate::last_first::LastFirst;
-use calvin_lock::{ListLocks, Locks, oldest_is_ready, ready_stays};
+use calvin_lock::{ListLocks, Locks, QueueLocks, oldest_is_ready, ready_stays};
 use calvin_types::{Fault, Key, KeySet, Place};
 use std::alloc::Global;
 use std::process::Abort;
@@ -64,6 +64,7 @@ fn in_sequence<L: Locks + Drop>(rt: &impl Abort, alloc: Global) -> Result<(), Fa
 #[test]
 fn lock_sequence(rt: HostRuntime) -> Result<(), Fail> {
     in_sequence::<ListLocks>(&rt, rt.alloc())?;
+    in_sequence::<QueueLocks>(&rt, rt.alloc())?;
     in_sequence::<LastFirst>(&rt, rt.alloc())?;
     Ok(())
 }
@@ -90,6 +91,7 @@ fn queried<L: Locks + Drop>(rt: &impl Abort, alloc: Global) -> Result<(), Fault>
 #[test]
 fn lock_queries(rt: HostRuntime) -> Result<(), Fail> {
     queried::<ListLocks>(&rt, rt.alloc())?;
+    queried::<QueueLocks>(&rt, rt.alloc())?;
     queried::<LastFirst>(&rt, rt.alloc())?;
     Ok(())
 }
@@ -120,6 +122,7 @@ fn called<L: Locks + Drop>(rt: &impl Abort, alloc: Global) -> Result<(), Fault> 
 #[test]
 fn calls(rt: HostRuntime) -> Result<(), Fail> {
     called::<ListLocks>(&rt, rt.alloc())?;
+    called::<QueueLocks>(&rt, rt.alloc())?;
     called::<LastFirst>(&rt, rt.alloc())?;
     Ok(())
 }
@@ -141,6 +144,7 @@ fn refused<L: Locks + Drop>(rt: &impl Abort, alloc: Global) -> Result<(), Fault>
 #[test]
 fn refused_once(rt: HostRuntime) -> Result<(), Fail> {
     refused::<ListLocks>(&rt, rt.alloc())?;
+    refused::<QueueLocks>(&rt, rt.alloc())?;
     refused::<LastFirst>(&rt, rt.alloc())?;
     Ok(())
 }
@@ -224,6 +228,16 @@ fn drawn_calls_agree(rt: HostRuntime) -> Result<(), Fail> {
         ] {
             assert!(rt; answers.as_slice().contains(&wanted), "{wanted:?}");
         }
+    }
+    Ok(())
+}
+
+#[test]
+fn keepers_agree(rt: HostRuntime) -> Result<(), Fail> {
+    for start in 1..21 {
+        let answers = drawn::<ListLocks>(rt.alloc(), start, 2_000)?;
+        let others = drawn::<QueueLocks>(rt.alloc(), start, 2_000)?;
+        assert_eq!(rt; answers.as_slice(), others.as_slice());
     }
     Ok(())
 }

@@ -29,7 +29,7 @@ pub fn read_all<S: Source>(alloc: Global, source: &mut S) -> Result<Vec<u8>, Fau
         × ConsumesSome (S.left source.old) (S.left source.new) n }
     ensures failed { IsErrOf result Fault.ReadFailed → S.failures source.new ≡ S.failures source.old + 1 }
     ensures not_failed { result ≢ Err Fault.ReadFailed → S.failures source.new ≡ S.failures source.old }
-    ensures faults { IfErr result (λ f. (f ≡ Fault.OutOfMemory) ⊎ (f ≡ Fault.ScriptTooLong) ⊎ (f ≡ Fault.ReadFailed)) }
+    ensures only { IfErr result (λ f. (f ≡ Fault.OutOfMemory) ⊎ (f ≡ Fault.ScriptTooLong) ⊎ (f ≡ Fault.ReadFailed)) }
 {
     let mut text = Vec::new(alloc);
     let mut filled = 0;

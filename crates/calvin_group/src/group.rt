@@ -48,7 +48,7 @@ impl<Args: Copy> Group<Args> {
     /// room for them.
     pub fn new(alloc: Global, config: &Config) -> Result<Group<Args>, Fault>
         ensures ok { IfOk result (λ g. g ≡ opening config.now.replicas) }
-        ensures err { IsOkUnless result Fault.OutOfMemory }
+        ensures only { IsOkUnless result Fault.OutOfMemory }
     {
         let mut members = Vec::new(alloc);
         for replica in 0..config.replicas {

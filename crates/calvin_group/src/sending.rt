@@ -49,7 +49,7 @@ fn post_to_all<Args: Copy>(
 ) -> Result<(), Fault>
     ensures sent { OnOk result (packets.new.items ≡ packets.old.items ++ packets_of size from (cases.ToAll message.now)) }
     ensures kept { take (length packets.old.items) packets.new.items ≡ packets.old.items }
-    ensures err { IsOkUnless result Fault.OutOfMemory }
+    ensures only { IsOkUnless result Fault.OutOfMemory }
 {
     for to in 0..size {
         let message = message.copy()?;

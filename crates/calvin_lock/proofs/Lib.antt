@@ -1,4 +1,14 @@
+pub mod AskedKeys
 pub mod Conflicts
+pub mod Entries
 pub mod LocalLocks
+pub mod PlaceTests
+pub mod QueueLists
+pub mod QueueMaps
+pub mod QueuedSteps
+pub mod ReadyByQueues
 pub mod ReadyLaws
+pub mod ReadyPlaces
 pub mod Requests
+pub mod RisingPlaces
+pub mod Waits

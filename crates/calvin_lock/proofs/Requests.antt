@@ -21,7 +21,7 @@ use Rattle.calvin_types.proofs.Conjunctions.{first, second, both, less}
 is_less : (o : Ordering) → o ≡ Less → T (is_lt o)
 is_less o h = subst (λ r. T (is_lt r)) (sym h) tt
 
-not_found : (b : Bool) (X : Type 0) (x : X) (o : Option X) → (b ≡ true → ⊥) → cond b (Some x) o ≡ o
+pub not_found : (b : Bool) (X : Type 0) (x : X) (o : Option X) → (b ≡ true → ⊥) → cond b (Some x) o ≡ o
 not_found true X x o h = absurd (h refl)
 not_found false X x o h = refl
 
@@ -42,7 +42,7 @@ module _ {X : Type 0} where
       go false other at more = let there = more at in (suc there.0, there.1)
 
   -- a search for a place below all finds nothing
-  below_unfound : (q : Place) (es : List (Place × X)) → T (below_all place_cmp q es) → find place_cmp q es ≡ None
+  pub below_unfound : (q : Place) (es : List (Place × X)) → T (below_all place_cmp q es) → find place_cmp q es ≡ None
   below_unfound q [] h = refl
   below_unfound q (e ∷ es) h =
       not_found (eq_by_cmp place_cmp q e.0) X e.1 (find place_cmp q es) (λ same. not_same q e.0 (less (place_cmp q e.0) (first _ (below_all place_cmp q es) h)) same)
@@ -87,7 +87,7 @@ module _ {X : Type 0} where
   rising_without (x ∷ es) (suc i) h = both _ _ (below_without x.0 es i (first _ (is_sorted place_cmp es) h)) (rising_without es i (second (below_all place_cmp x.0 es) _ h))
 
   -- and a search then finds all but that one
-  find_without : (es : List (Place × X)) (i : ℕ) (e : Place × X) (q : Place) → T (is_sorted place_cmp es) → slice_get es i ≡ Some e → find place_cmp q (remove es i) ≡ cond (eq_by_cmp place_cmp q e.0) None (find place_cmp q es)
+  pub find_without : (es : List (Place × X)) (i : ℕ) (e : Place × X) (q : Place) → T (is_sorted place_cmp es) → slice_get es i ≡ Some e → find place_cmp q (remove es i) ≡ cond (eq_by_cmp place_cmp q e.0) None (find place_cmp q es)
   find_without [] i e q h at = absurd (none-some e at)
   find_without (x ∷ es) zero e q h at = go (eq_by_cmp place_cmp q e.0) refl
     where
@@ -132,7 +132,7 @@ up_to_push : (last : Option Place) (q : Place) (h : Sets) (es : List (Place × S
 up_to_push last q h [] upto past = (λ before. not_before_itself q before, tt)
 up_to_push last q h (x ∷ es) upto past = (λ before. not_both q x.0 before (past_before last x.0 q upto.0 past), up_to_push last q h es upto.1 past)
 
-unfound : (last : Option Place) (q : Place) (es : List (Place × Sets)) → UpTo last es → IsPast last q → find place_cmp q es ≡ None
+pub unfound : (last : Option Place) (q : Place) (es : List (Place × Sets)) → UpTo last es → IsPast last q → find place_cmp q es ≡ None
 unfound last q [] upto past = refl
 unfound last q (x ∷ es) upto past =
     not_found (eq_by_cmp place_cmp q x.0) Sets x.1 (find place_cmp q es) (λ same. not_before_itself x.0 (subst (λ p. IsBefore x.0 p) (one_place q x.0 same) (past_before last x.0 q upto.0 past)))
@@ -243,7 +243,7 @@ module _ (es : List (Place × Sets)) (rising : T (is_sorted place_cmp es)) where
         λ k f less. all k less f
 
 -- no requested place of a list in order is past the last one
-up_to_at : (last : Option Place) (es : List (Place × Sets)) (i : ℕ) (e : Place × Sets) → UpTo last es → slice_get es i ≡ Some e → ¬ IsPast last e.0
+pub up_to_at : (last : Option Place) (es : List (Place × Sets)) (i : ℕ) (e : Place × Sets) → UpTo last es → slice_get es i ≡ Some e → ¬ IsPast last e.0
 up_to_at last [] i e upto at = absurd (none-some e at)
 up_to_at last (x ∷ es) zero e upto at = subst (λ (y : Place × Sets). ¬ IsPast last y.0) (same_Some x e at) upto.0
 up_to_at last (x ∷ es) (suc i) e upto at = up_to_at last es i e upto.1 at

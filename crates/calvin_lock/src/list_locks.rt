@@ -91,7 +91,7 @@ impl Locks for ListLocks {
 }
 
 /// Whether a place is greater than another, where there is one.
-fn is_past(after: Option<Place>, place: Place) -> bool
+pub(crate) fn is_past(after: Option<Place>, place: Place) -> bool
     ensures { IsTrue result ↔ IsPast after place }
 {
     match after {

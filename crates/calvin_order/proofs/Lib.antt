@@ -1,6 +1,8 @@
+pub mod Epochs
 pub mod Joining
 pub mod Places
 pub mod Ranges
 pub mod Standing
 pub mod Stretches
 pub mod Walks
+pub mod WithoutWeave

@@ -1,4 +1,6 @@
 pub mod Codes
+pub mod Configs
 pub mod Merged
 pub mod Merging
+pub mod Sequencing
 pub mod Walking

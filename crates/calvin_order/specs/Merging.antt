@@ -10,10 +10,11 @@
 --     with_batch slot batch m      m with one more batch, unless the slot has one
 --     without_epoch e g held      what is held besides the batches of epoch e of the groups below g
 --     EpochsFit held      no batch is held for an epoch past 2^64 - 1
---     IsMerge parts held given      what is true of every merge: 1 to 16 groups, no epoch past the last is held, no request is kept back
+--     IsMerge parts held given      what is true of every merge: at least one group and at most as many as there can be, no epoch past the last is held, no request is kept back
 use Rattle.std.specs.Prelude.{◌≡◌, ℕ, ◌-◌, ◌^◌, ◌<◌, ◌≤◌, ◌==◌, nat_lt, not, ◌&&◌, [], length, if◌then◌else◌, IsSome}
 use Rattle.std.specs.Option.{unwrap_or}
 use Rattle.std.specs.FinMap.{FinMap, get, contains_key, insert, retain_keys}
+use Rattle.calvin_types.specs.declared.limits.TheConstants.{MOST_PARTITIONS}
 use Rattle.calvin_types.specs.declared.place.Slot.{Slot}
 use Rattle.calvin_types.specs.Orders.{Order}
 use Rattle.calvin_types.specs.Places.{slot_cmp}
@@ -66,6 +67,6 @@ module _ {Args : Type 0} where
 
   pub record IsMerge (parts : ℕ) (held : Batches Args) (given : Order Args) : Type 0 where
     pub some : 0 < parts
-    pub few : parts ≤ 16
+    pub few : parts ≤ MOST_PARTITIONS
     pub in_range : EpochsFit held
     pub none_kept : given ≡ []

@@ -1,11 +1,11 @@
 -- What is left of an epoch's requests, group by group.
 --     joined_from B e g k      the batches of epoch e of k groups from g on, by ascending group
 --     left_of B slot groups n rest      the requests that are left of the group before the slot's, and of the groups from there on, counted from n
---     IsWalk group groups n left      no more than 256 requests a group were given or are left of one
+--     IsWalk group groups n left      no more requests a group than a batch has were given or are left of one
 --     placed      a place with the request that a reference points to
 use Rattle.std.specs.Prelude.{ℕ, zero, suc, ◌+◌, ◌-◌, ◌*◌, ◌≤◌, List, [], ◌++◌}
 use Rattle.std.specs.Borrow.{Bor}
-use Rattle.calvin_types.specs.declared.limits.TheConstants.{MOST_REQUESTS}
+use Rattle.calvin_types.specs.declared.limits.TheConstants.{MOST_PARTITIONS, MOST_REQUESTS}
 use Rattle.calvin_types.specs.declared.place.Place.{Place}
 use Rattle.calvin_types.specs.declared.place.Slot.{Slot}
 use Rattle.calvin_order.specs.Merged.{numbered}
@@ -21,8 +21,8 @@ module _ {T : Type 0} where
   abbrev pub placed : Place × Bor T → Place × T
   placed p = (p.0, p.1.now)
 
--- no more than 256 requests a group were given or are left of one, of at most 16 groups
+-- no more requests a group than a batch has were given or are left of one, of as many groups as there can be at most
 pub record IsWalk (group groups n left : ℕ) : Type 0 where
-  pub few : groups ≤ 16
+  pub few : groups ≤ MOST_PARTITIONS
   pub within : group ≤ groups
   pub counted : n + left ≤ MOST_REQUESTS * group

@@ -6,7 +6,7 @@ ghost use Rattle.calvin_order.specs.Merged.{joined, numbered, merged};
 ghost use Rattle.calvin_order.specs.Merging.{batch_at, HoldsAll, without_epoch};
 
 use crate::walk::{BatchSource, EpochRequests};
-use calvin_types::{Batch, Fault, MOST_REQUESTS, Place, Slot, Txn};
+use calvin_types::{Batch, Fault, MOST_PARTITIONS, MOST_REQUESTS, Place, Slot, Txn};
 use std::alloc::Global;
 use std::collections::HashMap;
 use std::marker::Model;
@@ -55,8 +55,8 @@ impl<Args: Copy> Held<Args> {
     /// One more batch, whose slot has none.
     pub fn insert(&mut self, slot: Slot, batch: Batch<Args>) -> Result<(), Fault>
         ensures held { OnOk result (self.new ≡ record { batches = map.insert self.old.batches slot batch; room = self.old.room - 1 }) }
-        ensures unchanged { OnErr result (self.new ≡ self.old) }
-        ensures err { IsOkUnless result Fault.OutOfMemory }
+        ensures err { OnErr result (self.new ≡ self.old) }
+        ensures only { IsOkUnless result Fault.OutOfMemory }
         ensures succeeds { 0 < self.old.room → IsOk result }
     {
         self.batches.insert(slot, batch)?;
@@ -66,9 +66,9 @@ impl<Args: Copy> Held<Args> {
 
     /// Room for one more batch at least.
     pub fn reserve(&mut self) -> Result<(), Fault>
-        ensures reserved { OnOk result (self.new ≡ record self.old { room = max 1 self.old.room }) }
-        ensures unchanged { OnErr result (self.new ≡ self.old) }
-        ensures err { IsOkUnless result Fault.OutOfMemory }
+        ensures ok { OnOk result (self.new ≡ record self.old { room = max 1 self.old.room }) }
+        ensures err { OnErr result (self.new ≡ self.old) }
+        ensures only { IsOkUnless result Fault.OutOfMemory }
         ensures succeeds { 0 < self.old.room → IsOk result }
     {
         if self.room == 0 {
@@ -133,7 +133,7 @@ impl<Args: Copy> Held<Args> {
     /// Appends the groups' requests for an epoch, each with its place.
     pub fn append_all(&self, epoch: u64, groups: u8, out: &mut Vec<(Place, Txn<Args>)>)
         requires empty { out.old.items ≡ [] }
-        requires few { groups ≤ 16 }
+        requires few { groups ≤ MOST_PARTITIONS }
         requires room { length (joined (batch_at self.now.batches) epoch groups) ≤ vec_capacity out.old }
         ensures { out.new.items ≡ merged groups (batch_at self.now.batches) epoch }
     {

@@ -4,7 +4,9 @@
 
 mod held;
 mod merge;
+mod unwoven;
 mod walk;
 
 pub use merge::{Merge, orders_rise};
+pub use unwoven::unwoven_orders;
 pub use walk::{BatchSource, EpochRequests};

@@ -59,8 +59,8 @@ impl<Args: Copy> Merge<Args> {
     pub fn hold(&mut self, slot: Slot, batch: Batch<Args>) -> Result<bool, Fault>
         ensures new { IfOk result (λ new. new ≡ is_none (map.get self.old.held slot)) }
         ensures held { OnOk result (self.new ≡ with_batch slot batch self.old) }
-        ensures unchanged { OnErr result (self.new ≡ self.old) }
-        ensures err { IsOkUnless result Fault.OutOfMemory }
+        ensures err { OnErr result (self.new ≡ self.old) }
+        ensures only { IsOkUnless result Fault.OutOfMemory }
         ensures absent { OnErr result (IsNone (map.get self.old.held slot)) }
         ensures succeeds { 0 < self.old.room → IsOk result }
     {
@@ -74,9 +74,9 @@ impl<Args: Copy> Merge<Args> {
     /// Makes room, so that `hold`, made next, isn't refused. Refused with `OutOfMemory` where there is no room and a
     /// growth was refused.
     pub fn reserve_hold(&mut self) -> Result<(), Fault>
-        ensures reserved { OnOk result (self.new ≡ record self.old { room = max 1 self.old.room }) }
-        ensures unchanged { OnErr result (self.new ≡ self.old) }
-        ensures err { IsOkUnless result Fault.OutOfMemory }
+        ensures ok { OnOk result (self.new ≡ record self.old { room = max 1 self.old.room }) }
+        ensures err { OnErr result (self.new ≡ self.old) }
+        ensures only { IsOkUnless result Fault.OutOfMemory }
         ensures succeeds { 0 < self.old.room → IsOk result }
     {
         self.held.reserve()?;
@@ -104,8 +104,8 @@ impl<Args: Copy> Merge<Args> {
         ensures next { OnOk result (self.new ≡ record self.old { next = suc self.old.next }) }
         ensures complete { OnOk result (IsComplete self.old) }
         ensures not_complete { IsErrOf result Fault.NotComplete ↔ ¬ IsComplete self.old }
-        ensures err { IsOkUnless result Fault.NotComplete }
-        ensures unchanged { OnErr result (self.new ≡ self.old) }
+        ensures only { IsOkUnless result Fault.NotComplete }
+        ensures err { OnErr result (self.new ≡ self.old) }
     {
         match self.next {
             Some(last) if self.held.has_all(last, self.partitions) => {
@@ -133,8 +133,8 @@ impl<Args: Copy> Merge<Args> {
         ensures next { OnOk result (self.new ≡ record self.old { next = suc self.old.next; ready = 0 }) }
         ensures complete { OnOk result (IsComplete self.old) }
         ensures not_complete { IsErrOf result Fault.NotComplete ↔ ¬ IsComplete self.old }
-        ensures faults { IfErr result (λ fault. (fault ≡ Fault.NotComplete) ⊎ (fault ≡ Fault.OutOfMemory)) }
-        ensures unchanged { OnErr result (self.new ≡ self.old) }
+        ensures only { IfErr result (λ fault. (fault ≡ Fault.NotComplete) ⊎ (fault ≡ Fault.OutOfMemory)) }
+        ensures err { OnErr result (self.new ≡ self.old) }
         ensures reserved { IsReady self.old → IsOkUnless result Fault.NotComplete }
     {
         let Some(epoch) = self.next else {
@@ -154,10 +154,10 @@ impl<Args: Copy> Merge<Args> {
     /// `OutOfMemory`. Refused with that where there is no room and a growth was refused.
     pub fn reserve_take_epoch(&mut self) -> Result<(), Fault>
         ensures ready { OnOk result (IsReady self.new) }
-        ensures reserved { OnOk result (self.new ≡ record self.old { ready = self.new.ready }) }
+        ensures ok { OnOk result (self.new ≡ record self.old { ready = self.new.ready }) }
         ensures kept { self.old.ready ≤ self.new.ready }
-        ensures unchanged { OnErr result (self.new ≡ self.old) }
-        ensures err { IsOkUnless result Fault.OutOfMemory }
+        ensures err { OnErr result (self.new ≡ self.old) }
+        ensures only { IsOkUnless result Fault.OutOfMemory }
         ensures succeeds { IsReady self.old → IsOk result }
     {
         if let Some(epoch) = self.next {

@@ -6,7 +6,7 @@ ghost use Rattle.calvin_types.specs.declared.place.Slot.{Slot as TheSlot};
 ghost use Rattle.calvin_order.specs.Merged.{merged};
 ghost use Rattle.calvin_order.specs.Walking.{placed};
 
-use calvin_types::{MOST_REQUESTS, Place, Slot};
+use calvin_types::{MOST_PARTITIONS, MOST_REQUESTS, Place, Slot};
 use std::marker::Model;
 
 /// What gives the batch for each slot, wherever the batches lie. `T` is a request, or one with what else is known of it.
@@ -52,7 +52,7 @@ impl<'a, T, S: BatchSource<T>> Model for EpochRequests<'a, T, S> {
 impl<'a, T, S: BatchSource<T>> EpochRequests<'a, T, S> {
     /// The requests of an epoch of the groups below so many.
     pub fn new(source: &'a S, epoch: u64, groups: u8) -> EpochRequests<'a, T, S>
-        requires { groups ≤ 16 }
+        requires { groups ≤ MOST_PARTITIONS }
         ensures { result ≡ merged groups (S.assignment source.now) epoch }
     {
         EpochRequests {

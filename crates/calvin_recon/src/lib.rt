@@ -7,4 +7,4 @@ mod scouting;
 
 pub use calvin_app::Look;
 pub use issuer::{Issuer, Next};
-pub use scouting::scout;
+pub use scouting::{scout, settled_sets};

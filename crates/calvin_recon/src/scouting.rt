@@ -1,10 +1,9 @@
 //! The search for sets.
-ghost use Rattle.std.specs.Prelude.{◌≡◌, IfOk, IsOkUnless};
-ghost use Rattle.std.specs.FinMap as map;
+ghost use Rattle.std.specs.Prelude.{◌≡◌, Ok, IfOk, IsOkUnless};
 ghost use Rattle.calvin_app.specs.Rows.{view};
-ghost use Rattle.calvin_recon.specs.Scouting.{scouted};
+ghost use Rattle.calvin_recon.specs.Scouting.{found};
 
-use calvin_app::{App, Look, View, look_up};
+use calvin_app::{App, Look, Settles, View, look_up};
 use calvin_types::{Fault, Sets};
 
 /// How often rows are looked at for one request at most.
@@ -15,7 +14,7 @@ const MOST_LOOKS: usize = 16;
 /// answer (Thomson et al. 2012, section 3.2.1: the reconnaissance query, in low isolation). Refused with `Unsettled`
 /// where those after sixteen looks still differ from the ones before.
 pub fn scout<A: App, L: Look<A::Row>>(app: &A, args: &A::Args, rows: &L) -> Result<Sets, Fault>
-    ensures scouted { result ≡ scouted A.meaning args.now (L.shown rows.now) MOST_LOOKS (A.meaning.needs args.now map.empty) }
+    ensures found { result ≡ found A.meaning args.now (L.shown rows.now) }
 
     // They are those that the request needs of what is shown of their own reads.
     ensures agree { IfOk result (λ sets. sets ≡ A.meaning.needs args.now (view (L.shown rows.now) sets.reads)) }
@@ -33,4 +32,13 @@ pub fn scout<A: App, L: Look<A::Row>>(app: &A, args: &A::Args, rows: &L) -> Resu
         sets = next;
     }
     Err(Fault::Unsettled)
+}
+
+/// The sets that `scout` finds where they depend on rows of the first reads alone: there always are some, and they are
+/// those that the request needs of all rows that can be looked at.
+pub fn settled_sets<A: Settles, L: Look<A::Row>>(app: &A, args: &A::Args, rows: &L) -> Sets
+    ensures found { found A.meaning args.now (L.shown rows.now) ≡ Ok result }
+    ensures needed { result ≡ A.meaning.needs args.now (L.shown rows.now) }
+{
+    scout(app, args, rows).unwrap()
 }

@@ -5,7 +5,7 @@ ghost use Rattle.calvin_app.specs.KvExact.{numbers_exact};
 ghost use Rattle.calvin_recon_cases.specs.Slide.{greatest, slide, slide_lawful};
 
 use calvin_app::{App, Kv, KvRequest, Table, View, Writes};
-use calvin_recon::scout;
+use calvin_recon::{scout, settled_sets};
 use calvin_types::{Fault, Key, KeySet, Sets};
 use std::alloc::Global;
 use std::test::Fail;
@@ -132,5 +132,6 @@ fn scout_follows(rt: HostRuntime) -> Result<(), Fail> {
     rows.overwrite(&Writes::of(key(1), 5))?;
     assert!(rt; scout(&Kv, &KvRequest::Follow(1), &rows) == Ok(reads(&[1, 5])?));
     assert!(rt; scout(&Kv, &KvRequest::Follow(5), &rows) == Ok(reads(&[5])?));
+    assert!(rt; settled_sets(&Kv, &KvRequest::Follow(1), &rows) == reads(&[1, 5])?);
     Ok(())
 }

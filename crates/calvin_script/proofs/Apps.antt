@@ -1,13 +1,16 @@
 -- A script for an application names it.
 use Rattle.std.proofs.Common.{◌≡◌, ℕ, List, Bool, true, false, Option, Some, None, option_and_then, codes, bytes_eq, refl}
+use Rattle.std.proofs.lemmas.Slice.Eq.{bytes_eq-Decides}
 use Rattle.serde_json.specs.Find.{get, as_str}
 use Rattle.calvin_app.specs.declared.kv.KvRequest.{KvRequest}
-use Rattle.calvin_script.specs.declared.reading.AppName.TheVariants.{Kv}
+use Rattle.calvin_stock.specs.declared.request.StockRequest.{StockRequest}
+use Rattle.calvin_script.specs.declared.reading.AppName.TheVariants.{Kv, Stock}
 use Rattle.calvin_script.specs.Spelling.{◌>>=◌, only_if, has_only, between, list}
 use Rattle.calvin_script.specs.Grammar.{Grammar}
 use Rattle.calvin_script.specs.Scripts.{Contents, Listed, batch, script, script_of, script_names}
 use Rattle.calvin_script.specs.Documents.{Json, app_of}
 use Rattle.calvin_script.specs.KvOperations.{kv_grammar}
+use Rattle.calvin_script.specs.StockOperations.{stock_grammar}
 
 tested : {A : Type 0} (test : Bool) (x : Option A) (c : A) → only_if test x ≡ Some c → test ≡ true
 tested true x c e = refl
@@ -34,3 +37,9 @@ app_named grammar d c e =
 
 pub kv_named : (d : Json) (c : Contents KvRequest) → script kv_grammar d ≡ Some c → app_of d ≡ Some Kv
 kv_named d c e = let n = app_named kv_grammar d c e in rw (n.1, n.2) refl
+
+pub stock_named : (d : Json) (c : Contents StockRequest) → script stock_grammar d ≡ Some c → app_of d ≡ Some Stock
+stock_named d c e =
+    let n = app_named stock_grammar d c e in
+    let is : n.0 ≡ stock_grammar.app_name = (bytes_eq-Decides n.0 stock_grammar.app_name).0 n.2 in
+    rw (n.1, is) refl

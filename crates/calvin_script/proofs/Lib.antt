@@ -4,3 +4,4 @@ pub mod KeySets
 pub mod Names
 pub mod Apps
 pub mod OrderLines
+pub mod KeptRequests

@@ -1,6 +1,6 @@
 -- The lines of an order are read line by line, and make an order where they are the lines of one.
 --     after ds found      the lines that a list spells of which ds is left, where those found were read before
-use Rattle.std.proofs.Common.{◌≡◌, ◌⊎◌, inl, inr, ℕ, suc, ◌+◌, ◌≤◌, ◌<◌, Bool, true, false, List, [], ◌∷◌, ◌++◌, length, Option, Some, None, option_map, option_and_then, nat_le, drop, get_or, append_assoc, refl, sym, ap, ◌∙◌, subst, arith}
+use Rattle.std.proofs.Common.{◌≡◌, ◌⊎◌, inl, inr, ℕ, suc, ◌+◌, ◌≤◌, ◌<◌, Bool, true, false, List, [], ◌∷◌, ◌++◌, length, Option, Some, None, option_map, option_and_then, nat_le, drop, get_or, append_assoc, refl, sym, ap, ◌∙◌, arith}
 use Rattle.std.proofs.Props.{props}
 use Rattle.std.specs.Prelude.{IsTrue, ◌↔◌, ◌&&◌, Result, Ok, Err, IfOk, IfErr, IsErrOf}
 use Rattle.std.specs.Result.{result_ok}

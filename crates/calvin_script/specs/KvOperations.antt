@@ -2,7 +2,7 @@
 --     put d, get_of d, add d, move_of d, follow_of d      each operation
 --     kv_operation d      one of them
 --     kv_grammar      Kv's name, its operations, and the sets of each on the empty view; declared sets are complete
-use Rattle.std.specs.Prelude.{ℕ, ◌^◌, if◌then◌else◌, Option, Some, option_and_then, option_map, is_none, codes, bytes_eq}
+use Rattle.std.specs.Prelude.{◌^◌, if◌then◌else◌, Option, Some, option_and_then, option_map, is_none, codes, bytes_eq}
 use Rattle.std.specs.FinMap as finmap
 use Rattle.serde_json.specs.Data.{Data}
 use Rattle.serde_json.specs.Find.{at, as_str}

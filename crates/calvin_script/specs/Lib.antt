@@ -9,3 +9,4 @@ pub mod Reading
 pub mod KvOperations
 pub mod Numbers
 pub mod StockOperations
+pub mod Keeping

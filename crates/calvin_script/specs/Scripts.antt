@@ -10,7 +10,7 @@ use Rattle.std.specs.Prelude.{ℕ, ◌&&◌, ◌^◌, List, [], ◌∷◌, lengt
 use Rattle.std.specs.List.{list_any, list_all}
 use Rattle.serde_json.specs.Data.{Data}
 use Rattle.serde_json.specs.Find.{get, as_str}
-use Rattle.calvin_types.specs.declared.limits.TheConstants.{MOST_REQUESTS}
+use Rattle.calvin_types.specs.declared.limits.TheConstants.{MOST_PARTITIONS, MOST_REQUESTS}
 use Rattle.calvin_types.specs.declared.place.Slot.{Slot}
 use Rattle.calvin_types.specs.declared.txn.Txn.{Txn}
 use Rattle.calvin_types.specs.Submitting.{is_taken}
@@ -51,13 +51,13 @@ module _ {Args : Type 0} where
 
   -- ---- values without where they lie in memory
 
-  abbrev pub listed : GroupBatch Args → Listed Args
+  abbrev pub listed : GroupBatch (Request Args) → Listed Args
   listed b = record { group = b.group; requests = b.requests.items }
 
-  abbrev pub all_listed : Epoch Args → List (Listed Args)
+  abbrev pub all_listed : Epoch (Request Args) → List (Listed Args)
   all_listed e = map listed e.batches.items
 
-  abbrev pub contents : Script Args → Contents Args
+  abbrev pub contents : Script (Request Args) → Contents Args
   contents s = record { partitions = s.partitions; epochs = map all_listed s.epochs.items }
 
   -- ---- what is written
@@ -65,7 +65,7 @@ module _ {Args : Type 0} where
   abbrev pub are_taken : List (Request Args) → Bool
   are_taken requests = list_all (λ r. is_taken r.txn) requests
 
-  -- at most 256 requests, each of which a sequencer takes
+  -- at most as many requests as a batch has, each of which a sequencer takes
   abbrev pub batch_of : ℕ → List (Request Args) → Option (Listed Args)
   batch_of group requests = only_if (nat_le (length requests) MOST_REQUESTS && are_taken requests) (Some (record { group = group; requests = requests }))
 
@@ -86,7 +86,7 @@ module _ {Args : Type 0} where
 
   unfoldable pub script : Grammar Args → Data → Option (Contents Args)
   script grammar d = only_if (has_only script_names d) (do
-    partitions ← option_and_then (between 1 16) (get (codes "partitions") d)
+    partitions ← option_and_then (between 1 MOST_PARTITIONS) (get (codes "partitions") d)
     app ← option_and_then as_str (get (codes "app") d)
     epochs ← option_and_then (list (list (batch grammar))) (get (codes "epochs") d)
     only_if (bytes_eq app grammar.app_name) (script_of partitions epochs))

@@ -12,24 +12,25 @@ pub struct Request<Args> {
     pub is_declared: bool,
 }
 
-/// The requests that an epoch lists for a group, at most 256, in order.
+/// The requests that an epoch lists for a group, at most 256, in order. `R` is how they are kept: `Kept` for what is
+/// read.
 #[derive(Debug, Drop, PartialEq, Eq)]
-pub struct GroupBatch<Args> {
+pub struct GroupBatch<R> {
     pub group: u8,
-    pub requests: Vec<Request<Args>>,
+    pub requests: Vec<R>,
     ghost few: { length requests.items ≤ MOST_REQUESTS },
 }
 
 /// An epoch: the batches that are listed, in any order. The batch of a group that isn't listed is empty.
 #[derive(Debug, Drop, PartialEq, Eq)]
-pub struct Epoch<Args> {
-    pub batches: Vec<GroupBatch<Args>>,
+pub struct Epoch<R> {
+    pub batches: Vec<GroupBatch<R>>,
 }
 
 /// A script: how many partitions there are, and the epochs from 0 on.
 #[derive(Debug, Drop, PartialEq, Eq)]
-pub struct Script<Args> {
+pub struct Script<R> {
     pub partitions: u8,
-    pub epochs: Vec<Epoch<Args>>,
+    pub epochs: Vec<Epoch<R>>,
     ghost in_range: { IsInRange partitions 1 },
 }

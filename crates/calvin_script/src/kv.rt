@@ -80,6 +80,20 @@ impl Operation for KvRequest {
         self.add_first_needs(sets);
     }
 
+    fn has_first_key(&self) -> bool {
+        match self {
+            KvRequest::Put(_, _) | KvRequest::Add(_, _) => true,
+            _ => {
+                let mut sets = Sets {
+                    reads: KeySet::new(),
+                    writes: KeySet::new(),
+                };
+                self.add_first_needs(&mut sets);
+                !(sets.reads.is_empty() && sets.writes.is_empty())
+            }
+        }
+    }
+
     fn complete(&self, _sets: &mut Sets) -> Option<()> {
         Some(())
     }

@@ -4,6 +4,7 @@
 
 mod contents;
 mod fields;
+mod kept;
 mod key_list;
 mod kv;
 mod list;
@@ -16,7 +17,9 @@ mod script;
 mod stock;
 
 pub use contents::{Epoch, GroupBatch, Request, Script};
+pub use kept::{Kept, blank_txn};
 pub use key_list::{KeyForm, WholeKey, read_key_set};
 pub use kv::RowNumber;
 pub use operation::Operation;
 pub use reading::{AppName, Document, script_from};
+pub use stock::order_of_lines;

@@ -1,9 +1,10 @@
 //! What an application adds to the form of scripts.
 ghost use Rattle.std.specs.Prelude.{◌≡◌, [], option_map};
 ghost use Rattle.serde_json.specs.View.{view};
+ghost use Rattle.calvin_types.specs.Submitting.{has_key};
 ghost use Rattle.calvin_script.specs.Grammar.{Grammar};
 
-use calvin_types::{RequestId, Sets};
+use calvin_types::{KeySet, RequestId, Sets};
 use serde_json::Value;
 
 /// The arguments of an application's requests, which scripts write as the member `op`.
@@ -28,6 +29,19 @@ pub trait Operation: Copy {
     fn add_first_sets(&self, sets: &mut Sets)
         requires { sets.old ≡ record { reads = []; writes = [] } }
         ensures { sets.new ≡ grammar.first_needs self.now };
+
+    /// Whether the operation reads or writes a key where no row is known yet. An application may tell so without making
+    /// the sets.
+    fn has_first_key(&self) -> bool
+        ensures { result ≡ has_key (grammar.first_needs self.now) }
+    {
+        let mut sets = Sets {
+            reads: KeySet::new(),
+            writes: KeySet::new(),
+        };
+        self.add_first_sets(&mut sets);
+        !(sets.reads.is_empty() && sets.writes.is_empty())
+    }
 
     /// Adds the keys that the application itself adds to sets that were declared, if they have room. An application that
     /// adds none leaves them.

@@ -6,6 +6,7 @@ ghost use Rattle.calvin_script.specs.Reading.{Reads, json, script_from};
 ghost use Rattle.calvin_script.specs.Documents.{data_of, app_of, script_in};
 
 use crate::contents::Script;
+use crate::kept::Kept;
 use crate::list::ScriptError;
 use crate::operation::Operation;
 use crate::script::script_of;
@@ -61,7 +62,7 @@ impl Document {
 
     /// The script that it is, for an application. Refused with `BadScript` where it doesn't have the form of a script
     /// for this application, and with `OutOfMemory`.
-    pub fn into_script<Op: Operation>(self, alloc: Global) -> Result<Script<Op>, Fault>
+    pub fn into_script<Op: Operation>(self, alloc: Global) -> Result<Script<Kept<Op>>, Fault>
         ensures { Reads contents result (script_in Op.grammar (data_of self)) }
     {
         match script_of(alloc, self.value) {
@@ -75,7 +76,7 @@ impl Document {
 /// The script that bytes are, for an application. Refused with `BadJson` where the bytes aren't JSON, with `BadScript`
 /// where the JSON doesn't have the form of a script for this application, and with `OutOfMemory`.
 #[tactic(auto, unfolding(crate::specs::Reading::script_from))]
-pub fn script_from<Op: Operation>(alloc: Global, bytes: &[u8]) -> Result<Script<Op>, Fault>
+pub fn script_from<Op: Operation>(alloc: Global, bytes: &[u8]) -> Result<Script<Kept<Op>>, Fault>
     ensures { Reads contents result (script_from Op.grammar bytes.now) }
 {
     Document::read(alloc, bytes)?.into_script(alloc)

@@ -1,12 +1,13 @@
 //! Requests.
-ghost use Rattle.std.specs.Prelude.{◌≡◌, ◌^◌, [], option_map};
+ghost use Rattle.std.specs.Prelude.{◌≡◌, ◌^◌, [], false, option_map, IfOk, IsOkUnless};
+ghost use Rattle.calvin_script.specs.declared.list.ScriptError.TheVariants as ScriptError;
 ghost use Rattle.serde_json.specs.View.{view};
 ghost use Rattle.calvin_script.specs.Requests.{id_of, named, sets_of, request_of};
 ghost use Rattle.calvin_script.specs.Gives.{Gives};
 ghost use Rattle.calvin_script.specs.Spelling.{below, optional, then_one};
 
-use crate::contents::Request;
 use crate::fields::{has_only, u8_of, u32_of};
+use crate::kept::Kept;
 use crate::key_list::{WholeKey, read_key_set};
 use crate::list::{ScriptError, Spelled};
 use crate::members::{Needed, declared_alone, needed_alone};
@@ -65,21 +66,39 @@ fn read_named<Op: Operation>(
     read_sets(&txn.args, reads, writes, &mut txn.sets)
 }
 
+/// Keeps a request, of which the sets were declared or are those that its operation needs where no row is known.
+fn keep<Op: Operation>(
+    alloc: Global,
+    txn: &Txn<Op>,
+    is_declared: bool,
+) -> Result<Kept<Op>, ScriptError>
+    requires { is_declared ≡ false → txn.now.sets ≡ Op.grammar.first_needs txn.now.args }
+    ensures ok { IfOk result (λ kept. kept ≡ record { txn = txn.now; is_declared = is_declared }) }
+    ensures only { IsOkUnless result ScriptError.OutOfMemory }
+{
+    if is_declared {
+        let declared = Box::new(alloc, txn.sets)?;
+        return Ok(Kept::new(txn.id, txn.attempt, txn.args, Some(declared)));
+    }
+    Ok(Kept::new(txn.id, txn.attempt, txn.args, None))
+}
+
 /// Puts the request that members spell at the end of a list.
-#[tactic(auto, unfolding(crate::specs::Requests::request_of))]
+#[tactic(auto, unfolding(crate::specs::Requests::request_of), using(crate::proofs::KeptRequests::undeclared))]
 fn push_request<Op: Operation>(
+    alloc: Global,
     needed: Needed<'_>,
     attempt: u8,
     reads: Option<&Value>,
     writes: Option<&Value>,
-    found: &mut Vec<Request<Op>>,
+    found: &mut Vec<Kept<Op>>,
 ) -> Result<(), ScriptError>
     ensures { Gives (λ _. found.new.items) result (then_one found.old.items (request_of Op.grammar
         (view needed.entry.client.now) (view needed.entry.number.now) (view needed.entry.op.now) attempt
         (option_map (λ v. view v.now) reads.entry) (option_map (λ v. view v.now) writes.entry))) }
 {
     let id = id_of(needed.client, needed.number).ok_or(ScriptError::BadScript)?;
-    let blank = Txn {
+    let mut txn = Txn {
         id,
         attempt,
         args: Op::blank(),
@@ -88,12 +107,10 @@ fn push_request<Op: Operation>(
             writes: KeySet::new(),
         },
     };
-    let is_declared = reads.is_some();
-    let request = found.push_mut(Request {
-        txn: blank,
-        is_declared,
-    })?;
-    read_named(&mut request.txn, needed.op, reads, writes).ok_or(ScriptError::BadScript)
+    read_named(&mut txn, needed.op, reads, writes).ok_or(ScriptError::BadScript)?;
+    let kept = keep(alloc, &txn, reads.is_some())?;
+    found.push(kept)?;
+    Ok(())
 }
 
 /// The number of the attempt: 1 where none is given.
@@ -106,7 +123,7 @@ fn attempt_of(attempt: Option<&Value>) -> Option<u8>
     }
 }
 
-impl<Op: Operation> Spelled for Request<Op> {
+impl<Op: Operation> Spelled for Kept<Op> {
     ghost use Rattle.calvin_script.specs.declared.contents.Request.{Request};
     ghost use Rattle.calvin_script.specs.Requests.{request};
 
@@ -118,16 +135,16 @@ impl<Op: Operation> Spelled for Request<Op> {
 
     #[tactic(auto, unfolding(crate::specs::Requests::request), using(crate::proofs::Names::short_request, crate::proofs::Names::declared_request))]
     fn push_json(
-        _alloc: Global,
+        alloc: Global,
         value: Value,
-        found: &mut Vec<Request<Op>>,
+        found: &mut Vec<Kept<Op>>,
     ) -> Result<(), ScriptError> {
         if let Some(needed) = needed_alone(&value) {
-            return push_request(needed, 1, None, None, found);
+            return push_request(alloc, needed, 1, None, None, found);
         }
         if let Some(declared) = declared_alone(&value) {
             let (reads, writes) = (Some(declared.reads), Some(declared.writes));
-            return push_request(declared.needed, 1, reads, writes, found);
+            return push_request(alloc, declared.needed, 1, reads, writes, found);
         }
         if !has_only(
             &value,
@@ -141,6 +158,7 @@ impl<Op: Operation> Spelled for Request<Op> {
         let needed = Needed { client, number, op };
         let attempt = attempt_of(value.get("attempt")).ok_or(ScriptError::BadScript)?;
         push_request(
+            alloc,
             needed,
             attempt,
             value.get("reads"),

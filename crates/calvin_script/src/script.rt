@@ -6,8 +6,9 @@ ghost use Rattle.calvin_types.specs.Limits.{IsInRange};
 ghost use Rattle.calvin_script.specs.Scripts.{are_taken, listed, all_listed, batch_of, contents, groups_fit, script, script_of};
 ghost use Rattle.calvin_script.specs.Gives.{Gives};
 
-use crate::contents::{Epoch, GroupBatch, Request, Script};
+use crate::contents::{Epoch, GroupBatch, Script};
 use crate::fields::{between, has_only, u8_of};
+use crate::kept::Kept;
 use crate::list::{ScriptError, Spelled, list_of};
 use crate::operation::Operation;
 use calvin_types::{MOST_PARTITIONS, MOST_REQUESTS};
@@ -15,20 +16,20 @@ use serde_json::Value;
 use std::alloc::Global;
 
 /// Whether a sequencer takes each of the requests.
-fn are_taken<Args: Copy>(requests: &[Request<Args>]) -> bool
+fn are_taken<Op: Operation>(requests: &[Kept<Op>]) -> bool
     ensures { result ≡ are_taken requests.now }
 {
     for request in requests {
-        if !request.txn.has_key() || !request.txn.is_in_time() {
+        if !request.is_taken() {
             return false;
         }
     }
     true
 }
 
-impl<Args: Copy> GroupBatch<Args> {
+impl<Op: Operation> GroupBatch<Kept<Op>> {
     /// The batch of these requests for a group: none of more than 256, nor with one that no sequencer takes.
-    pub fn new(group: u8, requests: Vec<Request<Args>>) -> Option<GroupBatch<Args>>
+    pub fn new(group: u8, requests: Vec<Kept<Op>>) -> Option<GroupBatch<Kept<Op>>>
         ensures { option_map listed result ≡ batch_of group requests.items }
     {
         if requests.len() > MOST_REQUESTS || !are_taken(&requests) {
@@ -38,7 +39,7 @@ impl<Args: Copy> GroupBatch<Args> {
     }
 }
 
-impl<Op: Operation> Spelled for GroupBatch<Op> {
+impl<Op: Operation> Spelled for GroupBatch<Kept<Op>> {
     ghost use Rattle.calvin_script.specs.Scripts.{Listed, listed, batch};
 
     ghost Meaning = { Listed Op };
@@ -51,7 +52,7 @@ impl<Op: Operation> Spelled for GroupBatch<Op> {
     fn push_json(
         alloc: Global,
         mut value: Value,
-        found: &mut Vec<GroupBatch<Op>>,
+        found: &mut Vec<GroupBatch<Kept<Op>>>,
     ) -> Result<(), ScriptError> {
         if !has_only(&value, &["group", "txns"]) {
             return Err(ScriptError::BadScript);
@@ -66,7 +67,7 @@ impl<Op: Operation> Spelled for GroupBatch<Op> {
     }
 }
 
-impl<Op: Operation> Spelled for Epoch<Op> {
+impl<Op: Operation> Spelled for Epoch<Kept<Op>> {
     ghost use Rattle.std.specs.Prelude.{List};
     ghost use Rattle.calvin_script.specs.Spelling.{list};
     ghost use Rattle.calvin_script.specs.Scripts.{Listed, all_listed, batch};
@@ -80,7 +81,7 @@ impl<Op: Operation> Spelled for Epoch<Op> {
     fn push_json(
         alloc: Global,
         value: Value,
-        found: &mut Vec<Epoch<Op>>,
+        found: &mut Vec<Epoch<Kept<Op>>>,
     ) -> Result<(), ScriptError> {
         let batches = list_of(alloc, value)?;
         found.push(Epoch { batches })?;
@@ -88,7 +89,7 @@ impl<Op: Operation> Spelled for Epoch<Op> {
     }
 }
 
-fn lists<Args>(batches: &[GroupBatch<Args>], group: u8) -> bool
+fn lists<Op: Operation>(batches: &[GroupBatch<Kept<Op>>], group: u8) -> bool
     ensures { result ≡ list_any (λ c. nat_eq c.group group) (map listed batches.now) }
 {
     for batch in batches {
@@ -100,7 +101,7 @@ fn lists<Args>(batches: &[GroupBatch<Args>], group: u8) -> bool
 }
 
 /// Whether each group is one of the partitions, and none is listed twice.
-fn groups_fit<Args>(partitions: u8, batches: &[GroupBatch<Args>]) -> bool
+fn groups_fit<Op: Operation>(partitions: u8, batches: &[GroupBatch<Kept<Op>>]) -> bool
     ensures { result ≡ groups_fit partitions (map listed batches.now) }
 {
     for (i, batch) in batches.iter().enumerate() {
@@ -111,7 +112,7 @@ fn groups_fit<Args>(partitions: u8, batches: &[GroupBatch<Args>]) -> bool
     true
 }
 
-fn all_groups_fit<Args>(partitions: u8, epochs: &[Epoch<Args>]) -> bool
+fn all_groups_fit<Op: Operation>(partitions: u8, epochs: &[Epoch<Kept<Op>>]) -> bool
     ensures { result ≡ list_all (groups_fit partitions) (map all_listed epochs.now) }
 {
     for epoch in epochs {
@@ -122,10 +123,10 @@ fn all_groups_fit<Args>(partitions: u8, epochs: &[Epoch<Args>]) -> bool
     true
 }
 
-impl<Args: Drop> Script<Args> {
+impl<Op: Operation> Script<Kept<Op>> {
     /// The script of these epochs, for so many partitions: none that lists a batch for a group that is no partition, or
     /// two for one group in an epoch.
-    pub fn new(partitions: u8, epochs: Vec<Epoch<Args>>) -> Option<Script<Args>>
+    pub fn new(partitions: u8, epochs: Vec<Epoch<Kept<Op>>>) -> Option<Script<Kept<Op>>>
         requires { IsInRange partitions 1 }
         ensures { option_map contents result ≡ script_of partitions (map all_listed epochs.items) }
     {
@@ -141,7 +142,7 @@ impl<Args: Drop> Script<Args> {
 pub(crate) fn script_of<Op: Operation>(
     alloc: Global,
     mut value: Value,
-) -> Result<Script<Op>, ScriptError>
+) -> Result<Script<Kept<Op>>, ScriptError>
     ensures { Gives contents result (script Op.grammar (view value)) }
 {
     if !has_only(&value, &["partitions", "app", "epochs"]) {

@@ -42,7 +42,7 @@ fn lines_of(value: &Value) -> Option<Few<Line>>
 }
 
 /// The order with these lines, where they are the lines of one.
-fn order_of_lines(customer: u64, number: u64, lines: &Few<Line>) -> Option<Order>
+pub fn order_of_lines(customer: u64, number: u64, lines: &Few<Line>) -> Option<Order>
     requires { length lines.now ≤ MOST_LINES }
     ensures { result ≡ order_of_lines customer number lines.now }
 {

@@ -1,6 +1,6 @@
 //! The worked cases of the engine `serial`, over memory and over devices that fail.
 use calvin_edge::{FailingSink, FailingSource, MemorySink, MemorySource, WriteFailure};
-use calvin_serial::serial;
+use calvin_serial::{UndeclaredSets, serial};
 use calvin_types::Fault;
 use std::alloc::Global;
 use std::process::Abort;
@@ -11,15 +11,25 @@ const PUT_THEN_GET: &str =
 
 const PUT_THEN_GET_TEXT: &str = "0.0 7:1 done\n0.1 7:2 value 5\nfinished 0\n";
 
-/// Runs a script over memory to its end, and compares the text.
-fn prints(rt: &impl Abort, alloc: Global, script: &str, text: &str) {
+/// Runs a script over memory to its end with these undeclared sets, and compares the text.
+fn prints_with(rt: &impl Abort, alloc: Global, sets: UndeclaredSets, script: &str, text: &str) {
     let mut input = MemorySource::new(script.as_bytes());
     let mut output = MemorySink::new(alloc);
-    assert_eq!(rt; serial(alloc, &mut input, &mut output), Ok(()));
+    assert_eq!(rt; serial(alloc, sets, &mut input, &mut output), Ok(()));
     assert!(rt;
         output.taken.as_slice() == text.as_bytes(),
         "the text for {script}"
     );
+}
+
+/// Runs a script with the first sets of requests that declare none.
+fn prints(rt: &impl Abort, alloc: Global, script: &str, text: &str) {
+    prints_with(rt, alloc, UndeclaredSets::First, script, text);
+}
+
+/// Runs a script with scouted sets of requests that declare none.
+fn scouts(rt: &impl Abort, alloc: Global, script: &str, text: &str) {
+    prints_with(rt, alloc, UndeclaredSets::Scouted, script, text);
 }
 
 #[test]
@@ -78,13 +88,48 @@ fn moves_and_follows(rt: HostRuntime) {
 }
 
 #[test]
+fn empty_script_scouted(rt: HostRuntime) {
+    scouts(
+        &rt,
+        rt.alloc(),
+        r#"{"partitions":1,"app":"kv","epochs":[]}"#,
+        "finished none\n",
+    );
+    scouts(
+        &rt,
+        rt.alloc(),
+        r#"{"partitions":1,"app":"stock","epochs":[[],[{"group":0,"txns":[]}]]}"#,
+        "finished 1\n",
+    );
+}
+
+/// Declared sets stay as they are declared, though scouted ones would be right.
+#[test]
+fn declared_sets_not_scouted(rt: HostRuntime) {
+    let script =
+        r#"{"partitions":2,"app":"kv","epochs":[[{"group":1,"txns":[{"client":7,"number":1,"op":["put",1,5]}]}],[{"group":1,"txns":[{"client":7,"number":2,"op":["follow",1],"reads":[[0,1]],"writes":[]}]},{"group":0,"txns":[{"client":8,"number":1,"op":["follow",1]}]}]]}"#;
+    let text = "0.0 7:1 done\n1.0 8:1 none\n1.1 7:2 changed\nfinished 1\n";
+    scouts(&rt, rt.alloc(), script, text);
+}
+
+/// The rows of the requests before it in its own epoch aren't those that a request is scouted over.
+#[test]
+fn scouted_before_the_epoch(rt: HostRuntime) {
+    let script =
+        r#"{"partitions":1,"app":"kv","epochs":[[{"group":0,"txns":[{"client":7,"number":1,"op":["put",1,5]},{"client":7,"number":2,"op":["follow",1]},{"client":7,"number":3,"op":["follow",2]}]}],[{"group":0,"txns":[{"client":7,"number":4,"op":["follow",1]},{"client":7,"number":5,"op":["put",1,2]},{"client":7,"number":6,"op":["follow",1]}]}],[{"group":0,"txns":[{"client":7,"number":7,"op":["follow",1]}]}]]}"#;
+    let text =
+        "0.0 7:1 done\n0.1 7:2 changed\n0.2 7:3 none\n1.0 7:4 none\n1.1 7:5 done\n1.2 7:6 changed\n2.0 7:7 none\nfinished 2\n";
+    scouts(&rt, rt.alloc(), script, text);
+}
+
+#[test]
 fn script_too_long(rt: HostRuntime) -> Result<(), Fail> {
     let alloc = rt.alloc();
     let mut script = Vec::from_slice(alloc, PUT_THEN_GET.as_bytes())?;
     script.resize(1_048_578, b' ')?;
     let mut input = MemorySource::new(&script);
     let mut output = MemorySink::new(alloc);
-    let answer = serial(alloc, &mut input, &mut output);
+    let answer = serial(alloc, UndeclaredSets::First, &mut input, &mut output);
     assert_eq!(rt; answer, Err(Fault::ScriptTooLong));
     assert_eq!(rt; output.taken.len(), 0);
     assert_eq!(rt;
@@ -94,7 +139,10 @@ fn script_too_long(rt: HostRuntime) -> Result<(), Fail> {
     );
     script.truncate(1_048_576);
     let mut input = MemorySource::new(&script);
-    assert_eq!(rt; serial(alloc, &mut input, &mut output), Ok(()));
+    assert_eq!(rt;
+        serial(alloc, UndeclaredSets::First, &mut input, &mut output),
+        Ok(())
+    );
     assert_eq!(rt; output.taken.as_slice(), PUT_THEN_GET_TEXT.as_bytes());
     Ok(())
 }
@@ -109,7 +157,7 @@ fn failing_readers(rt: HostRuntime) {
             ..FailingSource::new(PUT_THEN_GET.as_bytes())
         };
         let mut output = MemorySink::new(rt.alloc());
-        let answer = serial(rt.alloc(), &mut input, &mut output);
+        let answer = serial(rt.alloc(), UndeclaredSets::First, &mut input, &mut output);
         assert_eq!(rt; answer, Err(Fault::ReadFailed));
         assert_eq!(rt; output.taken.len(), 0);
         assert!(rt; input.failures.is_raised());
@@ -119,7 +167,7 @@ fn failing_readers(rt: HostRuntime) {
 /// Runs a script to the end of this output, which fails after `out` bytes of the text.
 fn stops_after(rt: &impl Abort, alloc: Global, output: &mut FailingSink, out: usize) {
     let mut input = MemorySource::new(PUT_THEN_GET.as_bytes());
-    let answer = serial(alloc, &mut input, output);
+    let answer = serial(alloc, UndeclaredSets::First, &mut input, output);
     assert_eq!(rt; answer, Err(Fault::WriteFailed));
     assert_eq!(rt; output.taken.len(), out);
     assert!(rt;
@@ -170,6 +218,9 @@ fn one_byte_a_write(rt: HostRuntime) {
         most: 1,
         ..FailingSink::new(alloc)
     };
-    assert_eq!(rt; serial(alloc, &mut input, &mut output), Ok(()));
+    assert_eq!(rt;
+        serial(alloc, UndeclaredSets::First, &mut input, &mut output),
+        Ok(())
+    );
     assert_eq!(rt; output.taken.as_slice(), PUT_THEN_GET_TEXT.as_bytes());
 }

@@ -1,6 +1,6 @@
 //! What a script spells.
 use calvin_app::KvRequest;
-use calvin_script::{Epoch, GroupBatch, Request, Script, script_from};
+use calvin_script::{Epoch, GroupBatch, Kept, Request, Script, script_from};
 use calvin_types::{Fault, Key, KeySet, MOST_REQUESTS, RequestId, Sets, Txn};
 use std::alloc::Global;
 use std::test::Fail;
@@ -14,7 +14,10 @@ pub(crate) fn id(client: u32, number: u32) -> RequestId {
 }
 
 /// The batch of a group that has these requests, at most 256.
-fn listed(group: u8, requests: Vec<Request<KvRequest>>) -> Result<GroupBatch<KvRequest>, Fault> {
+fn listed(
+    group: u8,
+    requests: Vec<Request<KvRequest>>,
+) -> Result<GroupBatch<Request<KvRequest>>, Fault> {
     if requests.len() > MOST_REQUESTS {
         return Err(Fault::TooLong);
     }
@@ -38,7 +41,7 @@ fn txn(
 }
 
 /// A batch of group 1: each operation, without declared sets.
-fn first_batch(alloc: Global) -> Result<GroupBatch<KvRequest>, Fault> {
+fn first_batch(alloc: Global) -> Result<GroupBatch<Request<KvRequest>>, Fault> {
     let none = KeySet::new();
     let five = KeySet::of(key(0, 5));
     let asked = KeySet::from_slice(&[key(0, 2), key(0, 5)])?;
@@ -60,7 +63,7 @@ fn first_batch(alloc: Global) -> Result<GroupBatch<KvRequest>, Fault> {
 }
 
 /// A batch of group 0: an add with declared sets.
-fn second_batch(alloc: Global) -> Result<GroupBatch<KvRequest>, Fault> {
+fn second_batch(alloc: Global) -> Result<GroupBatch<Request<KvRequest>>, Fault> {
     let reads = KeySet::from_slice(&[key(0, 8), key(0, 9), key(200, 1)])?;
     let writes = KeySet::of(key(0, 9));
     let txn = txn(id(1, 2), 3, KvRequest::Add(1, 2), reads, writes);
@@ -70,6 +73,32 @@ fn second_batch(alloc: Global) -> Result<GroupBatch<KvRequest>, Fault> {
         is_declared: true,
     })?;
     listed(0, requests)
+}
+
+/// A script with each request as a whole.
+fn whole(
+    alloc: Global,
+    script: &Script<Kept<KvRequest>>,
+) -> Result<Script<Request<KvRequest>>, Fault> {
+    let mut epochs = Vec::new(alloc);
+    for epoch in &script.epochs {
+        let mut batches = Vec::new(alloc);
+        for batch in &epoch.batches {
+            let mut requests = Vec::new(alloc);
+            for kept in &batch.requests {
+                requests.push(Request {
+                    txn: kept.txn(),
+                    is_declared: kept.is_declared(),
+                })?;
+            }
+            batches.push(listed(batch.group, requests)?)?;
+        }
+        epochs.push(Epoch { batches })?;
+    }
+    Ok(Script {
+        partitions: script.partitions,
+        epochs,
+    })
 }
 
 #[test]
@@ -100,6 +129,6 @@ fn a_script_in_full(rt: HostRuntime) -> Result<(), Fail> {
         epochs,
     };
     let found = script_from::<KvRequest>(alloc, text.as_bytes())?;
-    assert_eq!(rt; found, expected);
+    assert_eq!(rt; whole(alloc, &found)?, expected);
     Ok(())
 }

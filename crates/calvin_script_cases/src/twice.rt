@@ -2,7 +2,7 @@
 use crate::accepted::{fault_of, with_batches, with_request};
 use crate::spelled::{id, key};
 use calvin_app::KvRequest;
-use calvin_script::{Script, script_from};
+use calvin_script::{Kept, Script, script_from};
 use calvin_types::{Fault, KeySet, Sets, Txn};
 use std::alloc::Global;
 use std::test::Fail;
@@ -34,9 +34,9 @@ fn a_name_given_twice(rt: HostRuntime) {
 /// What a text is read as: a request, or a refusal.
 type Read = Result<Option<Txn<KvRequest>>, Fault>;
 
-fn first_request(script: &Script<KvRequest>) -> Option<Txn<KvRequest>> {
+fn first_request(script: &Script<Kept<KvRequest>>) -> Option<Txn<KvRequest>> {
     let requests = &script.epochs.get(0)?.batches.get(0)?.requests;
-    Some(requests.get(0)?.txn)
+    Some(requests.get(0)?.txn())
 }
 
 /// The request with these members.
@@ -194,7 +194,7 @@ fn a_set_given_twice(rt: HostRuntime) {
     }
 }
 
-fn first_group(script: &Script<KvRequest>) -> Option<u8> {
+fn first_group(script: &Script<Kept<KvRequest>>) -> Option<u8> {
     Some(script.epochs.get(0)?.batches.get(0)?.group)
 }
 

@@ -3,6 +3,7 @@ use Rattle.std.proofs.Common.{◌≡◌, ℕ, ◌<◌, List, [], ◌∷◌, map,
 use Rattle.std.proofs.lemmas.List.{get_or-map}
 use Rattle.calvin_order.specs.Merged.{merged, numbered}
 use Rattle.calvin_order.proofs.Joining.{joined_none}
+use Rattle.calvin_script.specs.declared.contents.Request.{Request}
 use Rattle.calvin_script.specs.declared.contents.Epoch.{Epoch}
 use Rattle.calvin_script.specs.declared.contents.Script.{Script}
 use Rattle.calvin_script.specs.Scripts.{all_listed, requests_of, contents, batch_at}
@@ -11,7 +12,7 @@ none_mapped : {X Y : Type 0} (f : X → Y) (xs : List X) → length xs ≡ 0 →
 none_mapped f [] none = refl
 none_mapped f (x ∷ xs) none = absurd (omega (arith, none))
 
-pub none_listed : {Args : Type 0} (script : Script Args) (e : ℕ) (epoch : Epoch Args) → e < length script.epochs.items → epoch ≡ get_or script.epochs.items e epoch
+pub none_listed : {Args : Type 0} (script : Script (Request Args)) (e : ℕ) (epoch : Epoch (Request Args)) → e < length script.epochs.items → epoch ≡ get_or script.epochs.items e epoch
     → length epoch.batches.items ≡ 0 → merged script.partitions (batch_at (contents script)) e ≡ []
 none_listed script e epoch within here none =
     let listed = get_or-map all_listed script.epochs.items e epoch [] within ∙ ap all_listed (sym here) ∙ none_mapped _ epoch.batches.items none in

@@ -1,4 +1,5 @@
 pub mod Blanks
 pub mod Requests
 pub mod Runs
+pub mod Scouts
 pub mod Usual

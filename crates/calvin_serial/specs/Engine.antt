@@ -1,8 +1,8 @@
 -- What the engine `serial` writes.
---     text_of m show script      the lines of the serial run of the script's merged order on no rows, and the last epoch
---     text_for m grammar show d      the text for the JSON of a script for an application, or why there is none
---     text_in d      the same for the application that it names
---     serial_text bytes      the text for the bytes of a script, or why there is none
+--     text_of m show sets script      the lines of the serial run of the script's merged order on no rows, with undeclared sets of this kind, and the last epoch
+--     text_for m grammar show sets d      the text for the JSON of a script for an application, or why there is none
+--     text_in sets d      the same for the application that it names
+--     serial_text sets bytes      the text for the bytes of a script, or why there is none
 --     HasText answer P      there is a text, and it is so
 --     HasBeginning answer old new      a proper beginning of the text went out
 --     Refuses fault answer      why there is no text, where the script is at fault
@@ -17,8 +17,7 @@ use Rattle.calvin_app.specs.Meaning.{Meaning}
 use Rattle.calvin_app.specs.Serial.{serial}
 use Rattle.calvin_app.specs.Kv.{kv}
 use Rattle.calvin_stock.specs.Stock.{stock}
-use Rattle.calvin_order.specs.Merged.{order}
-use Rattle.calvin_script.specs.Scripts.{Contents, batch_at}
+use Rattle.calvin_script.specs.Scripts.{Contents}
 use Rattle.calvin_script.specs.declared.reading.AppName.{AppName}
 use Rattle.calvin_script.specs.declared.reading.AppName.TheVariants.{Kv, Stock}
 use Rattle.calvin_script.specs.Documents.{Json, app_of, script_in}
@@ -27,26 +26,28 @@ use Rattle.calvin_script.specs.Reading.{and_then, json}
 use Rattle.calvin_script.specs.KvOperations.{kv_grammar}
 use Rattle.calvin_script.specs.StockOperations.{stock_grammar}
 use Rattle.calvin_text.specs.Texts.{kv_text, stock_text, lines, finished}
+use Rattle.calvin_serial.specs.declared.undeclared.UndeclaredSets.{UndeclaredSets}
+use Rattle.calvin_serial.specs.Scouting.{order_of}
 
 -- the merged order of all the script's epochs, run one at a time on no rows: a line for each request, and then the last epoch
-abbrev pub text_of : {Args Row Reply : Type 0} → Meaning Args Row Reply → (Reply → List ℕ) → Contents Args → List ℕ
-text_of m show script = let placed = order script.partitions (batch_at script) (length script.epochs) in
-    lines show placed (serial m (map (λ e. e.1) placed) empty).1 ++ finished (length script.epochs)
+abbrev pub text_of : {Args Row Reply : Type 0} → Meaning Args Row Reply → (Reply → List ℕ) → UndeclaredSets → Contents Args → Result (List ℕ) Fault
+text_of m show sets script = and_then (order_of m script sets) (λ placed.
+    Ok (lines show placed (serial m (map (λ e. e.1) placed) empty).1 ++ finished (length script.epochs)))
 
-abbrev pub text_for : {Args Row Reply : Type 0} → Meaning Args Row Reply → Grammar Args → (Reply → List ℕ) → Json → Result (List ℕ) Fault
-text_for m grammar show d = and_then (script_in grammar d) (λ script. Ok (text_of m show script))
+abbrev pub text_for : {Args Row Reply : Type 0} → Meaning Args Row Reply → Grammar Args → (Reply → List ℕ) → UndeclaredSets → Json → Result (List ℕ) Fault
+text_for m grammar show sets d = and_then (script_in grammar d) (text_of m show sets)
 
 -- by the application that is named
-abbrev pub text_by : Option AppName → Json → Result (List ℕ) Fault
-text_by None d = Err BadScript
-text_by (Some Kv) d = text_for kv kv_grammar kv_text d
-text_by (Some Stock) d = text_for stock stock_grammar stock_text d
+abbrev pub text_by : UndeclaredSets → Json → Option AppName → Result (List ℕ) Fault
+text_by sets d None = Err BadScript
+text_by sets d (Some Kv) = text_for kv kv_grammar kv_text sets d
+text_by sets d (Some Stock) = text_for stock stock_grammar stock_text sets d
 
-abbrev pub text_in : Json → Result (List ℕ) Fault
-text_in d = text_by (app_of d) d
+abbrev pub text_in : UndeclaredSets → Json → Result (List ℕ) Fault
+text_in sets d = text_by sets d (app_of d)
 
-abbrev pub serial_text : List ℕ → Result (List ℕ) Fault
-serial_text bytes = if nat_lt MOST_BYTES (length bytes) then Err ScriptTooLong else and_then (json bytes) text_in
+abbrev pub serial_text : UndeclaredSets → List ℕ → Result (List ℕ) Fault
+serial_text sets bytes = if nat_lt MOST_BYTES (length bytes) then Err ScriptTooLong else and_then (json bytes) (text_in sets)
 
 abbrev pub HasText : Result (List ℕ) Fault → (List ℕ → Type 0) → Type 0
 HasText (Ok text) P = P text

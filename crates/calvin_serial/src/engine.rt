@@ -1,86 +1,137 @@
 //! The engine `serial`: a script in, the text of its serial run out.
 ghost use Rattle.std.specs.Prelude.{◌≡◌, ◌≢◌, ◌+◌, ◌≤◌, ◌<◌, ◌++◌, [], ℕ, suc, length, map, IfOk, IfErr, OnOk, IfSome, Ok, Err, IsErrOf, IsOkUnless};
-ghost use Rattle.std.specs.FinMap as finmap;
 ghost use Rattle.std.specs.Io.KnownBytes.{Appends, IsAtEnd};
 ghost use Rattle.calvin_edge.specs.Devices.{ConsumesSome};
-ghost use Rattle.calvin_app.specs.Serial as spec;
-ghost use Rattle.calvin_order.specs.Merged.{merged};
-ghost use Rattle.calvin_script.specs.Scripts.{contents, batch_at};
-ghost use Rattle.calvin_script.specs.Reading.{and_then, json, Reads};
+ghost use Rattle.calvin_script.specs.Scripts.{Contents, contents};
+ghost use Rattle.calvin_script.specs.Reading.{and_then, json, script_from, Reads};
 ghost use Rattle.calvin_script.specs.Documents.{data_of};
 ghost use Rattle.calvin_serial.specs.Engine.{text_of, text_for, text_in, serial_text, HasText, HasBeginning, Refuses, IsSerialFault};
 
+use crate::scouted::push_scouted_epoch;
 use crate::text::push_epoch;
-use calvin_app::{Answer, App, Kv, Serial, View};
+use crate::undeclared::UndeclaredSets;
+use calvin_app::{Answer, Kv, Serial, Settles, View, Writes};
 use calvin_edge::{MOST_BYTES, Sink, Source, read_all, write_all};
-use calvin_script::{AppName, Document, Operation, Script};
+use calvin_script::{AppName, Document, Kept, Operation, Script};
 use calvin_stock::Stock;
 use calvin_text::{Printed, push_finished};
-use calvin_tokens::usual_script;
+use calvin_tokens::{OperationTokens, usual_script};
 use calvin_types::Fault;
 use std::alloc::Global;
 
 /// The text of the serial run of a script.
-fn text_of<A: App + Drop>(alloc: Global, app: A, script: &Script<A::Args>) -> Result<Vec<u8>, Fault>
+fn text_of<A: Settles + Copy + Drop>(
+    alloc: Global,
+    app: A,
+    script: &Script<Kept<A::Args>>,
+    sets: UndeclaredSets,
+) -> Result<Vec<u8>, Fault>
 where
+    A::Args: Operation,
     A::Reply: Printed,
-    ensures text { IfOk result (λ text. text.items ≡ text_of A.meaning A.Reply.printed (contents script.now)) }
+    ensures text { IfOk result (λ text. text_of A.meaning A.Reply.printed sets (contents script.now) ≡ Ok text.items) }
     ensures only { IsOkUnless result Fault.OutOfMemory }
 {
     let mut store = Serial::new(alloc, app);
     let mut text = Vec::new(alloc);
     let mut seen = View::new();
     let mut answer = Answer::Changed;
+    let mut writes = Writes::new();
     for epoch in 0..script.epochs.len() {
-        push_epoch(&mut store, script, epoch, &mut seen, &mut answer, &mut text)?;
+        match sets {
+            UndeclaredSets::First => push_epoch(
+                &mut store,
+                script,
+                epoch,
+                &mut seen,
+                &mut answer,
+                &mut writes,
+                &mut text,
+            )?,
+            UndeclaredSets::Scouted => {
+                push_scouted_epoch(alloc, &app, &mut store, script, epoch, &mut text)?
+            }
+        }
     }
     push_finished(&mut text, script.epochs.len())?;
     Ok(text)
 }
 
 /// The text for a script for an application.
-fn answer_for<A: App + Drop>(alloc: Global, app: A, document: Document) -> Result<Vec<u8>, Fault>
+fn answer_for<A: Settles + Copy + Drop>(
+    alloc: Global,
+    app: A,
+    document: Document,
+    sets: UndeclaredSets,
+) -> Result<Vec<u8>, Fault>
 where
     A::Args: Operation,
     A::Reply: Printed,
-    ensures { Reads (λ text. text.items) result (text_for A.meaning A.Args.grammar A.Reply.printed (data_of document)) }
+    ensures { Reads (λ text. text.items) result (text_for A.meaning A.Args.grammar A.Reply.printed sets (data_of document)) }
 {
     let script = document.into_script::<A::Args>(alloc)?;
-    text_of(alloc, app, &script)
+    text_of(alloc, app, &script, sets)
 }
 
-/// The text for the bytes of a script, for the application that it names. A script that is written as usual is read
-/// without its JSON as a value. The bytes are given back before the script is run.
-fn answer(alloc: Global, bytes: Vec<u8>) -> Result<Vec<u8>, Fault>
-    ensures { Reads (λ text. text.items) result (and_then (json bytes.items) text_in) }
+/// The text for the bytes of a script for an application, where it is written as usual: it is read without its JSON as a
+/// value, and the bytes are given back before it is run.
+fn usual_answer<A: Settles + Copy + Drop>(
+    alloc: Global,
+    app: A,
+    bytes: &mut Vec<u8>,
+    sets: UndeclaredSets,
+) -> Option<Result<Vec<u8>, Fault>>
+where
+    A::Args: OperationTokens,
+    A::Reply: Printed,
+    ensures text { IfSome result (λ text. (script : Contents A.Args) × (script_from A.Args.grammar bytes.old.items ≡ Ok script)
+        × Reads (λ t. t.items) text (text_of A.meaning A.Reply.printed sets script)) }
+    ensures kept { result ≡ None → bytes.new ≡ bytes.old }
 {
-    if let Some(script) = usual_script(alloc, &bytes) {
-        drop(bytes);
-        return text_of(alloc, Kv, &script);
+    let script = usual_script(alloc, bytes)?;
+    *bytes = Vec::new(alloc);
+    Some(text_of(alloc, app, &script, sets))
+}
+
+/// The text for the bytes of a script, for the application that it names. A script of another application than the one
+/// that is tried ends its reading at the application's name or at the first operation.
+fn answer(alloc: Global, mut bytes: Vec<u8>, sets: UndeclaredSets) -> Result<Vec<u8>, Fault>
+    ensures { Reads (λ text. text.items) result (and_then (json bytes.items) (text_in sets)) }
+{
+    if let Some(text) = usual_answer(alloc, Kv, &mut bytes, sets) {
+        return text;
+    }
+    if let Some(text) = usual_answer(alloc, Stock, &mut bytes, sets) {
+        return text;
     }
     let document = Document::read(alloc, &bytes)?;
     drop(bytes);
     match document.app() {
-        Some(AppName::Kv) => answer_for(alloc, Kv, document),
-        Some(AppName::Stock) => answer_for(alloc, Stock, document),
+        Some(AppName::Kv) => answer_for(alloc, Kv, document, sets),
+        Some(AppName::Stock) => answer_for(alloc, Stock, document, sets),
         None => Err(Fault::BadScript),
     }
 }
 
 /// Reads a script to the end of the source, runs the merged order of its epochs one request at a time on no rows, and
 /// writes a line for each request and then the last epoch. The whole text is built before any of it is written.
-pub fn serial<S: Source, K: Sink>(alloc: Global, source: &mut S, sink: &mut K) -> Result<(), Fault>
+pub fn serial<S: Source, K: Sink>(
+    alloc: Global,
+    sets: UndeclaredSets,
+    source: &mut S,
+    sink: &mut K,
+) -> Result<(), Fault>
     // What is written is the text of what was read.
-    ensures ok { OnOk result (IfSome (S.left source.old) (λ bytes. HasText (serial_text bytes)
+    ensures ok { OnOk result (IfSome (S.left source.old) (λ bytes. HasText (serial_text sets bytes)
         (λ text. Appends (K.taken sink.old) (K.taken sink.new) text))) }
     // Which fault it is: no other one comes, and a script is refused with its own.
     ensures only { IfErr result IsSerialFault }
     ensures refused { IfErr result (λ fault. IfSome (S.left source.old) (λ bytes.
-        Refuses fault (serial_text bytes))) }
+        Refuses fault (serial_text sets bytes))) }
     // Nothing is written, but where writing fails.
     ensures untouched { IfErr result (λ fault. fault ≢ Fault.WriteFailed → sink.new ≡ sink.old) }
     ensures beginning { IsErrOf result Fault.WriteFailed → IfSome (S.left source.old) (λ bytes.
-        HasBeginning (serial_text bytes) (K.taken sink.old) (K.taken sink.new)) }
+        HasBeginning (serial_text sets bytes) (K.taken sink.old) (K.taken sink.new)) }
     // All is read, or the first byte too many and none past it.
     ensures all_read { OnOk result (IsAtEnd (S.left source.new)) }
     ensures too_long { IsErrOf result Fault.ScriptTooLong
@@ -98,7 +149,7 @@ pub fn serial<S: Source, K: Sink>(alloc: Global, source: &mut S, sink: &mut K) -
         → K.failures sink.new ≡ K.failures sink.old }
 {
     let bytes = read_all(alloc, source)?;
-    let text = answer(alloc, bytes)?;
+    let text = answer(alloc, bytes, sets)?;
     write_all(sink, &text)?;
     Ok(())
 }

@@ -3,6 +3,9 @@
 
 mod engine;
 mod listed;
+mod scouted;
 mod text;
+mod undeclared;
 
 pub use engine::serial;
+pub use undeclared::UndeclaredSets;

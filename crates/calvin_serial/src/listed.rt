@@ -3,17 +3,17 @@ ghost use Rattle.std.specs.Prelude.{◌≡◌, ◌≤◌, length};
 ghost use Rattle.calvin_script.specs.Scripts.{all_listed, requests_of, contents, requests_at};
 
 use calvin_order::BatchSource;
-use calvin_script::{Epoch, Request, Script};
+use calvin_script::{Epoch, Kept, Operation, Script};
 use calvin_types::{MOST_REQUESTS, Slot};
 
 /// The batches that a script lists. None is copied.
 #[derive(Drop)]
-pub(crate) struct ListedBatches<'a, Args> {
-    pub script: &'a Script<Args>,
+pub(crate) struct ListedBatches<'a, R> {
+    pub script: &'a Script<R>,
 }
 
 /// The requests that are listed for a group: none, where no batch is.
-fn requests_of<Args: Copy>(epoch: &Epoch<Args>, group: u8) -> &[Request<Args>]
+fn requests_of<Op: Operation>(epoch: &Epoch<Kept<Op>>, group: u8) -> &[Kept<Op>]
     ensures requests { result.now ≡ requests_of group (all_listed epoch.now) }
     ensures at_most { length result.now ≤ MOST_REQUESTS }
 {
@@ -25,10 +25,10 @@ fn requests_of<Args: Copy>(epoch: &Epoch<Args>, group: u8) -> &[Request<Args>]
     &[]
 }
 
-impl<'a, Args: Copy> BatchSource<Request<Args>> for ListedBatches<'a, Args> {
+impl<'a, Op: Operation> BatchSource<Kept<Op>> for ListedBatches<'a, Kept<Op>> {
     ghost assignment = { λ l. requests_at (contents l.script.now) };
 
-    fn requests(&self, slot: Slot) -> &[Request<Args>] {
+    fn requests(&self, slot: Slot) -> &[Kept<Op>] {
         match self.script.epochs.get(slot.epoch as usize) {
             Some(epoch) => requests_of(epoch, slot.group),
             None => &[],

@@ -1,43 +1,66 @@
 //! The lines of a serial run.
-ghost use Rattle.std.specs.Prelude.{◌≡◌, ◌<◌, ◌++◌, OnOk, IsOkUnless, length, map};
+ghost use Rattle.std.specs.Prelude.{◌≡◌, ◌<◌, ◌++◌, OnOk, IsOkUnless, length};
+ghost use Rattle.calvin_app.specs.Serial.{answer_one, after_one};
 ghost use Rattle.calvin_order.specs.Merged.{merged};
 ghost use Rattle.calvin_script.specs.Scripts.{contents, batch_at};
-ghost use Rattle.calvin_app.specs.Serial.{serial};
-ghost use Rattle.calvin_text.specs.Texts.{lines};
+ghost use Rattle.calvin_text.specs.Texts.{line};
+ghost use Rattle.calvin_serial.specs.Scouting.{RunsOn};
 
 use crate::listed::ListedBatches;
-use calvin_app::{Answer, App, Serial, View};
+use calvin_app::{Answer, App, Serial, View, Writes};
 use calvin_order::EpochRequests;
-use calvin_script::Script;
+use calvin_script::{Kept, Operation, Script, blank_txn};
 use calvin_text::{Printed, push_line};
-use calvin_types::Fault;
+use calvin_types::{Fault, Place, Txn};
 
-/// Runs the requests of an epoch of a script, as they stand there, and adds a line for each. One view and one answer
-/// serve all requests.
-pub(crate) fn push_epoch<A: App>(
+/// Runs one request, and adds its line.
+pub(crate) fn push_request<A: App>(
     store: &mut Serial<A>,
-    script: &Script<A::Args>,
-    epoch: usize,
+    place: Place,
+    txn: &Txn<A::Args>,
     seen: &mut View<A::Row>,
     answer: &mut Answer<A::Reply>,
+    writes: &mut Writes<A::Row>,
     text: &mut Vec<u8>,
 ) -> Result<(), Fault>
 where
     A::Reply: Printed,
+    ensures line { OnOk result (text.new.items ≡ text.old.items ++ line A.Reply.printed place txn.now.id (answer_one A.meaning txn.now store.old)) }
+    ensures rows { OnOk result (store.new ≡ after_one A.meaning txn.now store.old) }
+    ensures only { IsOkUnless result Fault.OutOfMemory }
+{
+    store.apply_into(txn, seen, answer, writes)?;
+    push_line(text, place, txn.id, answer)?;
+    Ok(())
+}
+
+/// Runs the requests of an epoch of a script, as they stand there, and adds a line for each. One view, one answer and
+/// one place for writes serve all requests.
+pub(crate) fn push_epoch<A: App>(
+    store: &mut Serial<A>,
+    script: &Script<Kept<A::Args>>,
+    epoch: usize,
+    seen: &mut View<A::Row>,
+    answer: &mut Answer<A::Reply>,
+    writes: &mut Writes<A::Row>,
+    text: &mut Vec<u8>,
+) -> Result<(), Fault>
+where
+    A::Args: Operation,
+    A::Reply: Printed,
     requires within { epoch < length script.now.epochs.items }
-    ensures lines { OnOk result (let placed = merged script.now.partitions (batch_at (contents script.now)) epoch in
-        text.new.items ≡ text.old.items ++ lines A.Reply.printed placed (serial A.meaning (map (λ e. e.1) placed) store.old).1) }
-    ensures rows { OnOk result (let placed = merged script.now.partitions (batch_at (contents script.now)) epoch in
-        store.new ≡ (serial A.meaning (map (λ e. e.1) placed) store.old).0) }
+    ensures ok { OnOk result (RunsOn A.meaning A.Reply.printed (merged script.now.partitions (batch_at (contents script.now)) epoch)
+        store.old store.new text.old.items text.new.items) }
     ensures only { IsOkUnless result Fault.OutOfMemory }
 {
     if script.epochs[epoch].batches.is_empty() {
         return Ok(());
     }
     let listed = ListedBatches { script };
-    for (place, request) in EpochRequests::new(&listed, epoch as u64, script.partitions) {
-        store.apply_into(&request.txn, seen, answer)?;
-        push_line(text, place, request.txn.id, answer)?;
+    let mut txn = blank_txn();
+    for (place, kept) in EpochRequests::new(&listed, epoch as u64, script.partitions) {
+        kept.put_into(&mut txn);
+        push_request(store, place, &txn, seen, answer, writes, text)?;
     }
     Ok(())
 }

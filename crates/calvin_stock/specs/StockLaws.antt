@@ -3,6 +3,7 @@
 --     has-settle      a settlement needs its customer
 --     at_most_four      an order has at most four lines
 --     stock_lawful      it keeps them
+--     stock_settles      the first reads show all rows that its sets depend on
 use Rattle.std.specs.Prelude.{◌≡◌, ℕ, ◌+◌, ◌≤◌, ◌||◌, Bool, true, false, nat_lt, if◌then◌else◌, List, [], ◌∷◌, ◌++◌, length, map, Option, Some, None, refl}
 use Rattle.std.specs.Option.{is_some}
 use Rattle.std.specs.FinMap as finmap
@@ -19,7 +20,7 @@ use Rattle.calvin_types.specs.Exact.{first, second}
 use Rattle.calvin_types.proofs.Risings.{insert_all-grows_by}
 use Rattle.calvin_app.specs.Rows.{Rows, view}
 use Rattle.calvin_app.specs.RowLaws.{get-seen}
-use Rattle.calvin_app.specs.Meaning.{IsLawful, IsBounded, AllUpTo}
+use Rattle.calvin_app.specs.Meaning.{IsLawful, IsBounded, AllUpTo, SettlesAtOnce}
 use Rattle.calvin_stock.specs.declared.order.Line.{Line}
 use Rattle.calvin_stock.specs.declared.order.Order.{Order}
 use Rattle.calvin_stock.specs.declared.rows.Customer.{Customer}
@@ -33,7 +34,7 @@ use Rattle.calvin_stock.specs.declared.reply.StockReply.TheVariants.{Limit, Exis
 use Rattle.calvin_stock.specs.declared.limits.TheConstants.{MOST_CENTS, MOST_PIECES}
 use Rattle.calvin_stock.specs.StockRows.{customer_key, item_key, order_key, customer_at, item_at, order_at, as_customer}
 use Rattle.calvin_stock.specs.Operations.{Outcome, told, restock, pay_in, tell_balance, taken, total_of, first_fault, placed, unless_fault, place, settle_order, settle_last, settle}
-use Rattle.calvin_stock.specs.Stock.{last_order, item_keys, order_keys, settle_keys, needs_of, is_dependent, outcome_of, stock}
+use Rattle.calvin_stock.specs.Stock.{last_order, item_keys, order_keys, settle_keys, read_and_written, needs_of, is_dependent, outcome_of, stock}
 
 -- ---- writes are within the sets
 
@@ -219,3 +220,14 @@ stock_lawful = record {
   bounded_writes = writes_bounded;
   at_most_sixteen = lit≤ tt;
 }
+
+pub stock_settles : SettlesAtOnce stock
+stock_settles (request.AddItem i s c) rows = refl
+stock_settles (request.Restock i s) rows = refl
+stock_settles (request.Open u) rows = refl
+stock_settles (request.PayIn u c) rows = refl
+stock_settles (request.Order o) rows = refl
+stock_settles (request.Settle u) rows =
+    ap (λ (r : Option StockRow). read_and_written (settle_keys u (last_order (as_customer r))))
+    (get-seen rows _ (customer_key u) (has-settle u (last_order (customer_at finmap.empty u))))
+stock_settles (request.Balance u) rows = refl

@@ -6,7 +6,6 @@ mod items;
 mod keys;
 mod limits;
 mod order;
-mod outcome;
 mod placing;
 mod reply;
 mod request;

@@ -7,7 +7,6 @@ ghost use Rattle.calvin_stock.specs.Operations.{line_fault, first_fault, cost, t
 use crate::keys::{customer_in, customer_key, item_in, item_key, order_key};
 use crate::limits::MOST_CENTS;
 use crate::order::{Line, Order};
-use crate::outcome::{Outcome, told};
 use crate::reply::StockReply;
 use crate::rows::{Customer, Item, Placed, StockRow};
 use calvin_app::{View, Writes};
@@ -88,16 +87,21 @@ fn add_taken(lines: &Few<Line>, view: &View<StockRow>, writes: &mut Writes<Stock
 }
 
 /// Places an order of a customer where all of its lines can be delivered.
-fn placed(order: &Order, view: &View<StockRow>, customer: Customer) -> Outcome
-    ensures { result ≡ placed order.now view.now customer (total_of order.now.lines view.now) }
+fn placed(
+    order: &Order,
+    view: &View<StockRow>,
+    customer: Customer,
+    writes: &mut Writes<StockRow>,
+) -> StockReply
+    requires { writes.old ≡ [] }
+    ensures { (result, writes.new) ≡ placed order.now view.now customer (total_of order.now.lines view.now) }
 {
     let total = total_of(&order.lines, view);
     if total > MOST_CENTS as u128 {
-        return told(StockReply::Limit);
+        return StockReply::Limit;
     }
     let total = total as u64;
-    let mut writes = Writes::new();
-    add_taken(&order.lines, view, &mut writes);
+    add_taken(&order.lines, view, writes);
     let row = StockRow::Order(Placed {
         customer: order.customer,
         total,
@@ -109,21 +113,26 @@ fn placed(order: &Order, view: &View<StockRow>, customer: Customer) -> Outcome
         last_order: Some(order.number),
     });
     writes.push(customer_key(order.customer), row);
-    (StockReply::Ordered(total), writes)
+    StockReply::Ordered(total)
 }
 
 /// Places an order, if its customer is there and the order isn't.
-pub(crate) fn place(order: &Order, view: &View<StockRow>) -> Outcome
-    ensures { result ≡ place order.now view.now (customer_at view.now order.now.customer) }
+pub(crate) fn place(
+    order: &Order,
+    view: &View<StockRow>,
+    writes: &mut Writes<StockRow>,
+) -> StockReply
+    requires { writes.old ≡ [] }
+    ensures { (result, writes.new) ≡ place order.now view.now (customer_at view.now order.now.customer) }
 {
     let Some(customer) = customer_in(view, order.customer) else {
-        return told(StockReply::NoCustomer);
+        return StockReply::NoCustomer;
     };
     if view.get(&order_key(order.number)).is_some() {
-        return told(StockReply::OrderExists);
+        return StockReply::OrderExists;
     }
     match first_fault(&order.lines, view) {
-        Some(fault) => told(fault),
-        None => placed(order, view, customer),
+        Some(fault) => fault,
+        None => placed(order, view, customer, writes),
     }
 }

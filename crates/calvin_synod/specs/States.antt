@@ -7,6 +7,7 @@
 use Rattle.std.specs.Prelude.{◌≡◌, ℕ, ◌<◌, ◌≤◌, Bool, true, List, [], Option, Some, None, length, IsSome}
 use Rattle.std.specs.Option.{ForSome}
 use Rattle.std.specs.FinMap.{FinMap, get}
+use Rattle.calvin_types.specs.declared.limits.TheConstants.{MOST_REPLICAS}
 use Rattle.calvin_types.specs.declared.place.Ballot.{Ballot}
 use Rattle.calvin_types.specs.declared.place.Slot.{Slot}
 use Rattle.calvin_types.specs.Places.{slot_cmp}
@@ -54,16 +55,16 @@ FewCounted {B} replicas attempts = (slot : Slot) (t : Attempt B) → get attempt
 abbrev pub FewVoters : ℕ → FinMap proposal_cmp (List ℕ) → Type 0
 FewVoters replicas counted = (p : Proposal) (voters : List ℕ) → get counted p ≡ Some voters → length voters < majority replicas
 
--- what is true of every learner: 1 to 7 replicas, fewer votes of a proposal than a majority, and room where it is ready
+-- what is true of every learner: no more replicas than there can be, fewer votes of a proposal than a majority, and room where it is ready
 pub record IsLearner (replicas : ℕ) (tallied : Tallied) (room : ℕ) (ready : Bool) : Type 0 where
-  pub at_most : replicas ≤ 7
+  pub at_most : replicas ≤ MOST_REPLICAS
   pub few : FewVoters replicas tallied.counted
   pub room_counted : ready ≡ true → 0 < tallied.room
   pub room_given : ready ≡ true → 0 < room
 
--- what is true of every proposer: 1 to 7 replicas, fewer reports of a slot than a majority, and room where it is ready
+-- what is true of every proposer: no more replicas than there can be, fewer reports of a slot than a majority, and room where it is ready
 pub record IsProposer {B : Type 0} (replicas : ℕ) (attempts : BySlot (Attempt B)) (spare : Option (List (Report B))) (ready : Bool) : Type 0 where
-  pub at_most : replicas ≤ 7
+  pub at_most : replicas ≤ MOST_REPLICAS
   pub few : FewCounted replicas attempts.entries
   pub spare_empty : ForSome spare (λ reports. reports ≡ [])
   pub room : ready ≡ true → 0 < attempts.room

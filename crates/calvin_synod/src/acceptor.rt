@@ -58,8 +58,8 @@ impl<B: Drop> Acceptor<B> {
     pub fn prepare(&mut self, slot: Slot, ballot: Ballot) -> Result<Option<Ballot>, Fault>
         ensures bar { IfOk result (λ bar. bar ≡ bars_prepare (promise_at self.old.records slot) ballot) }
         ensures promised { OnOk result (self.new ≡ unless (bars_prepare (promise_at self.old.records slot) ballot) (record { records = promised self.old.records slot ballot; ready = false }) self.old) }
-        ensures unchanged { OnErr result (self.new ≡ self.old) }
-        ensures err { IsOkUnless result Fault.OutOfMemory }
+        ensures err { OnErr result (self.new ≡ self.old) }
+        ensures only { IsOkUnless result Fault.OutOfMemory }
         ensures first { OnErr result (map.get self.old.records slot ≡ None) }
         ensures succeeds { self.old.ready ≡ true → IsOk result }
     {
@@ -74,9 +74,9 @@ impl<B: Drop> Acceptor<B> {
     /// Makes room, so that `prepare`, made next, isn't refused. Refused with `OutOfMemory` where there is no room and a
     /// growth was refused.
     pub fn reserve_prepare(&mut self) -> Result<(), Fault>
-        ensures reserved { OnOk result (self.new ≡ record self.old { ready = true }) }
-        ensures unchanged { OnErr result (self.new ≡ self.old) }
-        ensures err { IsOkUnless result Fault.OutOfMemory }
+        ensures ok { OnOk result (self.new ≡ record self.old { ready = true }) }
+        ensures err { OnErr result (self.new ≡ self.old) }
+        ensures only { IsOkUnless result Fault.OutOfMemory }
         ensures succeeds { self.old.ready ≡ true → IsOk result }
     {
         self.reserve()
@@ -88,8 +88,8 @@ impl<B: Drop> Acceptor<B> {
     pub fn accept(&mut self, slot: Slot, ballot: Ballot, batch: B) -> Result<Option<Ballot>, Fault>
         ensures bar { IfOk result (λ bar. bar ≡ bars_accept (promise_at self.old.records slot) ballot) }
         ensures voted { OnOk result (self.new ≡ unless (bars_accept (promise_at self.old.records slot) ballot) (record { records = voted self.old.records slot (record { ballot = ballot; batch = batch }); ready = false }) self.old) }
-        ensures unchanged { OnErr result (self.new ≡ self.old) }
-        ensures err { IsOkUnless result Fault.OutOfMemory }
+        ensures err { OnErr result (self.new ≡ self.old) }
+        ensures only { IsOkUnless result Fault.OutOfMemory }
         ensures first { OnErr result (map.get self.old.records slot ≡ None) }
         ensures succeeds { self.old.ready ≡ true → IsOk result }
     {
@@ -111,18 +111,18 @@ impl<B: Drop> Acceptor<B> {
     /// Makes room, so that `accept`, made next, isn't refused. Refused with `OutOfMemory` where there is no room and a
     /// growth was refused.
     pub fn reserve_accept(&mut self) -> Result<(), Fault>
-        ensures reserved { OnOk result (self.new ≡ record self.old { ready = true }) }
-        ensures unchanged { OnErr result (self.new ≡ self.old) }
-        ensures err { IsOkUnless result Fault.OutOfMemory }
+        ensures ok { OnOk result (self.new ≡ record self.old { ready = true }) }
+        ensures err { OnErr result (self.new ≡ self.old) }
+        ensures only { IsOkUnless result Fault.OutOfMemory }
         ensures succeeds { self.old.ready ≡ true → IsOk result }
     {
         self.reserve()
     }
 
     fn reserve(&mut self) -> Result<(), Fault>
-        ensures reserved { OnOk result (self.new ≡ record self.old { ready = true }) }
-        ensures unchanged { OnErr result (self.new ≡ self.old) }
-        ensures err { IsOkUnless result Fault.OutOfMemory }
+        ensures ok { OnOk result (self.new ≡ record self.old { ready = true }) }
+        ensures err { OnErr result (self.new ≡ self.old) }
+        ensures only { IsOkUnless result Fault.OutOfMemory }
         ensures succeeds { self.old.ready ≡ true → IsOk result }
     {
         if !self.ready {

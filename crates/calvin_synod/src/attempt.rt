@@ -35,7 +35,7 @@ impl<B> Model for Reports<B> {
 impl<B: Drop> Reports<B> {
     pub fn new(alloc: Global) -> Result<Reports<B>, Fault>
         ensures none { IfOk result (λ r. r ≡ []) }
-        ensures err { IsOkUnless result Fault.OutOfMemory }
+        ensures only { IsOkUnless result Fault.OutOfMemory }
     {
         let items = Vec::with_capacity(alloc, 4)?;
         Ok(Reports { items })

@@ -53,8 +53,8 @@ impl<V: Drop> BySlot<V> {
     /// Puts a value at a slot, in place of the one that is there.
     pub fn insert(&mut self, slot: Slot, value: V) -> Result<(), Fault>
         ensures put { OnOk result (self.new ≡ record { entries = map.insert self.old.entries slot value; room = self.old.room - 1 }) }
-        ensures unchanged { OnErr result (self.new ≡ self.old) }
-        ensures err { IsOkUnless result Fault.OutOfMemory }
+        ensures err { OnErr result (self.new ≡ self.old) }
+        ensures only { IsOkUnless result Fault.OutOfMemory }
         ensures absent { OnErr result (map.get self.old.entries slot ≡ None) }
         ensures succeeds { 0 < self.old.room → IsOk result }
     {
@@ -77,9 +77,9 @@ impl<V: Drop> BySlot<V> {
 
     /// Room for one more slot at least.
     pub fn reserve(&mut self) -> Result<(), Fault>
-        ensures reserved { OnOk result (self.new ≡ record self.old { room = max 1 self.old.room }) }
-        ensures unchanged { OnErr result (self.new ≡ self.old) }
-        ensures err { IsOkUnless result Fault.OutOfMemory }
+        ensures ok { OnOk result (self.new ≡ record self.old { room = max 1 self.old.room }) }
+        ensures err { OnErr result (self.new ≡ self.old) }
+        ensures only { IsOkUnless result Fault.OutOfMemory }
     {
         if self.room == 0 {
             self.entries.reserve(1)?;
@@ -94,8 +94,8 @@ impl<B: Drop> BySlot<Recorded<B>> {
     pub fn promise(&mut self, slot: Slot, ballot: Ballot) -> Result<(), Fault>
         ensures promised { OnOk result (self.new.entries ≡ promised self.old.entries slot ballot) }
         ensures room { OnOk result (self.new.room ≡ (if is_some (map.get self.old.entries slot) then self.old.room else self.old.room - 1)) }
-        ensures unchanged { OnErr result (self.new ≡ self.old) }
-        ensures err { IsOkUnless result Fault.OutOfMemory }
+        ensures err { OnErr result (self.new ≡ self.old) }
+        ensures only { IsOkUnless result Fault.OutOfMemory }
         ensures absent { OnErr result (map.get self.old.entries slot ≡ None) }
         ensures succeeds { 0 < self.old.room → IsOk result }
     {

@@ -53,7 +53,7 @@ impl Learner {
     pub fn completes(&self, from: u8, slot: Slot, ballot: Ballot) -> Result<bool, Fault>
         ensures completes { IfOk result (λ b. b ≡ completes self.now.replicas self.now.learning slot ballot) }
         ensures known { IsErrOf result Fault.Known ↔ (knows self.now.learning from slot ballot ≡ true) }
-        ensures err { IsOkUnless result Fault.Known }
+        ensures only { IsOkUnless result Fault.Known }
     {
         let voters = self.counted.voters(Proposal { slot, ballot });
         if self.given.get(slot).is_some() || has(&voters, from) {
@@ -75,8 +75,8 @@ impl Learner {
         ensures given { IfOk result (λ given. given ≡ (if completes self.old.replicas self.old.learning slot ballot then Some batch else None)) }
         ensures learned { OnOk result (self.new ≡ record self.old { learning = learned self.old.replicas self.old.learning from slot ballot; ready = false }) }
         ensures known { IsErrOf result Fault.Known ↔ (knows self.old.learning from slot ballot ≡ true) }
-        ensures faults { IfErr result (λ fault. (fault ≡ Fault.Known) ⊎ (fault ≡ Fault.OutOfMemory)) }
-        ensures unchanged { OnErr result (self.new ≡ self.old) }
+        ensures only { IfErr result (λ fault. (fault ≡ Fault.Known) ⊎ (fault ≡ Fault.OutOfMemory)) }
+        ensures err { OnErr result (self.new ≡ self.old) }
         ensures reserved { self.old.ready ≡ true → IsOkUnless result Fault.Known }
     {
         let proposal = Proposal { slot, ballot };
@@ -94,9 +94,9 @@ impl Learner {
     /// Makes room, so that `on_vote`, made next, isn't refused with `OutOfMemory`. Refused with that where there is no
     /// room and a growth was refused.
     pub fn reserve_on_vote(&mut self) -> Result<(), Fault>
-        ensures reserved { OnOk result (self.new ≡ record self.old { ready = true }) }
-        ensures unchanged { OnErr result (self.new ≡ self.old) }
-        ensures err { IsOkUnless result Fault.OutOfMemory }
+        ensures ok { OnOk result (self.new ≡ record self.old { ready = true }) }
+        ensures err { OnErr result (self.new ≡ self.old) }
+        ensures only { IsOkUnless result Fault.OutOfMemory }
         ensures succeeds { self.old.ready ≡ true → IsOk result }
     {
         if !self.ready {

@@ -70,7 +70,7 @@ impl<B: Drop> Proposer<B> {
     pub fn next_ballot(&self) -> Result<Ballot, Fault>
         ensures ballot { IfOk result (λ b. b ≡ roles.next_ballot self.now.replica self.now.proposing) }
         ensures spent { IsErrOf result Fault.RoundsSpent ↔ (2 ^ 32 ≤ max self.now.proposing.used self.now.proposing.seen + 1) }
-        ensures err { IsOkUnless result Fault.RoundsSpent }
+        ensures only { IsOkUnless result Fault.RoundsSpent }
     {
         let greatest = if self.used < self.seen {
             self.seen
@@ -93,8 +93,8 @@ impl<B: Drop> Proposer<B> {
         ensures ballot { IfOk result (λ b. b ≡ roles.next_ballot self.old.replica self.old.proposing) }
         ensures started { OnOk result (self.new ≡ record self.old { proposing = roles.started self.old.replica self.old.proposing slot value; ready = false }) }
         ensures spent { IsErrOf result Fault.RoundsSpent ↔ (2 ^ 32 ≤ max self.old.proposing.used self.old.proposing.seen + 1) }
-        ensures faults { IfErr result (λ fault. (fault ≡ Fault.RoundsSpent) ⊎ (fault ≡ Fault.OutOfMemory)) }
-        ensures unchanged { OnErr result (self.new ≡ self.old) }
+        ensures only { IfErr result (λ fault. (fault ≡ Fault.RoundsSpent) ⊎ (fault ≡ Fault.OutOfMemory)) }
+        ensures err { OnErr result (self.new ≡ self.old) }
         ensures reserved { self.old.ready ≡ true → IsOkUnless result Fault.RoundsSpent }
     {
         let ballot = self.next_ballot()?;
@@ -115,9 +115,9 @@ impl<B: Drop> Proposer<B> {
     /// Makes room, so that `start`, made next, isn't refused with `OutOfMemory`. Refused with that where there is no
     /// room and a growth was refused.
     pub fn reserve_start(&mut self) -> Result<(), Fault>
-        ensures reserved { OnOk result (self.new ≡ record self.old { ready = true }) }
-        ensures unchanged { OnErr result (self.new ≡ self.old) }
-        ensures err { IsOkUnless result Fault.OutOfMemory }
+        ensures ok { OnOk result (self.new ≡ record self.old { ready = true }) }
+        ensures err { OnErr result (self.new ≡ self.old) }
+        ensures only { IsOkUnless result Fault.OutOfMemory }
         ensures succeeds { self.old.ready ≡ true → IsOk result }
     {
         if !self.ready {
@@ -162,7 +162,7 @@ impl<B: Drop> Proposer<B> {
     ) -> Result<Option<&'a B>, Fault>
         ensures due { IfOk result (λ due. option_copied due ≡ roles.batch_due self.now.replicas (roles.current self.now.proposing from slot ballot) from (option_copied vote.entry)) }
         ensures not_current { IsErrOf result Fault.NotCurrent ↔ (roles.current self.now.proposing from slot ballot ≡ None) }
-        ensures err { IsOkUnless result Fault.NotCurrent }
+        ensures only { IsOkUnless result Fault.NotCurrent }
     {
         let Some(attempt) = self.current(from, slot, ballot) else {
             return Err(Fault::NotCurrent);
@@ -189,8 +189,8 @@ impl<B: Drop> Proposer<B> {
         ensures batch { IfOk result (λ batch. batch ≡ roles.batch_due self.old.replicas (roles.current self.old.proposing from slot ballot) from vote) }
         ensures reported { OnOk result (self.new ≡ record self.old { proposing = roles.reported self.old.replicas self.old.proposing slot (roles.current self.old.proposing from slot ballot) from vote }) }
         ensures not_current { IsErrOf result Fault.NotCurrent ↔ (roles.current self.old.proposing from slot ballot ≡ None) }
-        ensures err { IsOkUnless result Fault.NotCurrent }
-        ensures unchanged { OnErr result (self.new ≡ self.old) }
+        ensures only { IsOkUnless result Fault.NotCurrent }
+        ensures err { OnErr result (self.new ≡ self.old) }
     {
         let Some(attempt) = self.current(from, slot, ballot) else {
             return Err(Fault::NotCurrent);
@@ -214,8 +214,8 @@ impl<B: Drop> Proposer<B> {
     pub fn on_refused(&mut self, promise: Ballot) -> Result<(), Fault>
         ensures seen { OnOk result (self.new ≡ record self.old { proposing = roles.refused_at self.old.proposing promise }) }
         ensures not_current { IsErrOf result Fault.NotCurrent ↔ (promise.round ≤ max self.old.proposing.used self.old.proposing.seen) }
-        ensures err { IsOkUnless result Fault.NotCurrent }
-        ensures unchanged { OnErr result (self.new ≡ self.old) }
+        ensures only { IsOkUnless result Fault.NotCurrent }
+        ensures err { OnErr result (self.new ≡ self.old) }
     {
         if promise.round <= self.used || promise.round <= self.seen {
             return Err(Fault::NotCurrent);
@@ -229,7 +229,7 @@ impl<B: Drop> Proposer<B> {
 fn or_new<B: Drop>(alloc: Global, spare: Option<Reports<B>>) -> Result<Reports<B>, Fault>
     requires empty { ForSome spare (λ reports. reports ≡ []) }
     ensures none { IfOk result (λ reports. reports ≡ []) }
-    ensures err { IsOkUnless result Fault.OutOfMemory }
+    ensures only { IsOkUnless result Fault.OutOfMemory }
     ensures succeeds { IsSome spare → IsOk result }
 {
     match spare {

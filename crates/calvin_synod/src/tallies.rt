@@ -3,7 +3,7 @@ ghost use Rattle.std.specs.Prelude.{◌≡◌, ◌<◌, ◌-◌, ◌++◌, ◌�
 ghost use Rattle.std.specs.Option.{unwrap_or};
 ghost use Rattle.std.specs.FinMap as map;
 
-use calvin_types::{Ballot, Fault, Few, Slot};
+use calvin_types::{Ballot, Fault, Few, MOST_REPLICAS, Slot};
 use std::alloc::Global;
 use std::collections::HashMap;
 use std::marker::Model;
@@ -60,10 +60,10 @@ impl Tallies {
 
     /// Counts one vote more for a proposal.
     pub fn add(&mut self, proposal: Proposal, from: u8) -> Result<(), Fault>
-        requires few { length (unwrap_or (map.get self.old.counted proposal) []) < 16 }
+        requires few { length (unwrap_or (map.get self.old.counted proposal) []) < MOST_REPLICAS }
         ensures added { OnOk result (self.new ≡ record { counted = map.insert self.old.counted proposal (unwrap_or (map.get self.old.counted proposal) [] ++ from ∷ []); room = self.old.room - 1 }) }
-        ensures unchanged { OnErr result (self.new ≡ self.old) }
-        ensures err { IsOkUnless result Fault.OutOfMemory }
+        ensures err { OnErr result (self.new ≡ self.old) }
+        ensures only { IsOkUnless result Fault.OutOfMemory }
         ensures succeeds { 0 < self.old.room → IsOk result }
     {
         let mut voters = self.voters(proposal);
@@ -82,9 +82,9 @@ impl Tallies {
 
     /// Room for one more proposal at least.
     pub fn reserve(&mut self) -> Result<(), Fault>
-        ensures reserved { OnOk result (self.new ≡ record self.old { room = max 1 self.old.room }) }
-        ensures unchanged { OnErr result (self.new ≡ self.old) }
-        ensures err { IsOkUnless result Fault.OutOfMemory }
+        ensures ok { OnOk result (self.new ≡ record self.old { room = max 1 self.old.room }) }
+        ensures err { OnErr result (self.new ≡ self.old) }
+        ensures only { IsOkUnless result Fault.OutOfMemory }
     {
         if self.room == 0 {
             self.voters.reserve(1)?;

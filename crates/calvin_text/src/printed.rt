@@ -18,13 +18,25 @@ pub trait Printed {
         ensures { OnOk result (text.new.items ≡ text.old.items ++ printed self.now) };
 }
 
-/// Adds a number.
+/// Adds a number. Most have few digits, and these are put there without a text of their own.
 #[inline(always)]
+#[tactic(auto, using(crate::proofs::ShortNumbers::two_digits, crate::proofs::ShortNumbers::three_digits))]
 pub(crate) fn push_number(text: &mut Vec<u8>, n: u64) -> Result<(), AllocError>
     ensures { OnOk result (text.new.items ≡ text.old.items ++ decimal n) }
 {
     if n < 10 {
         text.push(b'0' + n as u8)?;
+        return Ok(());
+    }
+    if n < 100 {
+        text.push(b'0' + (n / 10) as u8)?;
+        text.push(b'0' + (n % 10) as u8)?;
+        return Ok(());
+    }
+    if n < 1000 {
+        text.push(b'0' + (n / 100) as u8)?;
+        text.push(b'0' + (n / 10 % 10) as u8)?;
+        text.push(b'0' + (n % 10) as u8)?;
         return Ok(());
     }
     let mut buffer = Buffer::new();

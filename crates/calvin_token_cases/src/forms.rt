@@ -1,6 +1,6 @@
 //! Which forms of a script are read in the usual way.
 use calvin_app::KvRequest;
-use calvin_script::Request;
+use calvin_script::Kept;
 use calvin_tokens::{script_from, usual_script};
 use calvin_types::Fault;
 use std::alloc::{AllocError, Global};
@@ -123,7 +123,7 @@ fn a_request_as_it_is_written(rt: HostRuntime) -> Result<(), Fail> {
         r#"{"reads":[[0,9],[0,1]],"op":["add",1,5],"attempt":3,"writes":[[0,1]],"number":2,"client":7}"#,
     )?;
     let script = script_from::<KvRequest>(rt.alloc(), text.as_bytes())?;
-    let requests: &[Request<KvRequest>] = match script.epochs.get(0) {
+    let requests: &[Kept<KvRequest>] = match script.epochs.get(0) {
         Some(epoch) => match epoch.batches.get(0) {
             Some(batch) => &batch.requests,
             None => &[],
@@ -132,8 +132,8 @@ fn a_request_as_it_is_written(rt: HostRuntime) -> Result<(), Fail> {
     };
     match requests.get(0) {
         Some(request) => {
-            let txn = request.txn;
-            assert!(rt; request.is_declared && txn.attempt == 3);
+            let txn = request.txn();
+            assert!(rt; request.is_declared() && txn.attempt == 3);
             assert!(rt; txn.id.client == 7 && txn.id.number == 2);
             assert!(rt; txn.args == KvRequest::Add(1, 5));
             assert!(rt; txn.sets.reads.len() == 2 && txn.sets.writes.len() == 1);

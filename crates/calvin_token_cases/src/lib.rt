@@ -8,3 +8,5 @@ mod forms;
 mod same;
 #[cfg(test)]
 mod scripts;
+#[cfg(test)]
+mod stock_forms;

@@ -1,22 +1,78 @@
 //! Both ways read the same: drawn scripts, and such scripts with a few bytes changed.
 use crate::scripts::{draw, script};
 use calvin_app::KvRequest;
-use calvin_tokens::{script_from, usual_script};
+use calvin_script::{AppName, Epoch, GroupBatch, Kept, Script};
+use calvin_stock::StockRequest;
+use calvin_tokens::{OperationTokens, script_from, usual_script};
 use rand_pcg::Pcg32;
 use std::alloc::Global;
 use std::process::Abort;
 use std::test::Fail;
 
+/// Whether two batches have the same requests.
+fn is_same_batch<Op: OperationTokens + Eq>(
+    one: &GroupBatch<Kept<Op>>,
+    other: &GroupBatch<Kept<Op>>,
+) -> bool {
+    if one.group != other.group || one.requests.len() != other.requests.len() {
+        return false;
+    }
+    for i in 0..one.requests.len() {
+        let same = match (one.requests.get(i), other.requests.get(i)) {
+            (Some(a), Some(b)) => a.txn() == b.txn() && a.is_declared() == b.is_declared(),
+            _ => false,
+        };
+        if !same {
+            return false;
+        }
+    }
+    true
+}
+
+/// Whether two epochs list the same batches.
+fn is_same_epoch<Op: OperationTokens + Eq>(one: &Epoch<Kept<Op>>, other: &Epoch<Kept<Op>>) -> bool {
+    if one.batches.len() != other.batches.len() {
+        return false;
+    }
+    for i in 0..one.batches.len() {
+        let same = match (one.batches.get(i), other.batches.get(i)) {
+            (Some(a), Some(b)) => is_same_batch(a, b),
+            _ => false,
+        };
+        if !same {
+            return false;
+        }
+    }
+    true
+}
+
+/// Whether two scripts are the same.
+fn is_same<Op: OperationTokens + Eq>(one: &Script<Kept<Op>>, other: &Script<Kept<Op>>) -> bool {
+    if one.partitions != other.partitions || one.epochs.len() != other.epochs.len() {
+        return false;
+    }
+    for i in 0..one.epochs.len() {
+        let same = match (one.epochs.get(i), other.epochs.get(i)) {
+            (Some(a), Some(b)) => is_same_epoch(a, b),
+            _ => false,
+        };
+        if !same {
+            return false;
+        }
+    }
+    true
+}
+
 /// Reads bytes both ways. Says whether the usual way was taken, and whether they are a script.
-fn compare(rt: &impl Abort, alloc: Global, bytes: &[u8]) -> (bool, bool) {
-    let usual = usual_script::<KvRequest>(alloc, bytes);
-    let here = script_from::<KvRequest>(alloc, bytes);
-    let there = calvin_script::script_from::<KvRequest>(alloc, bytes);
+fn compare<Op: OperationTokens + Eq>(rt: &impl Abort, alloc: Global, bytes: &[u8]) -> (bool, bool) {
+    let usual = usual_script::<Op>(alloc, bytes);
+    let here = script_from::<Op>(alloc, bytes);
+    let there = calvin_script::script_from::<Op>(alloc, bytes);
     match (&here, &there) {
         (Ok(one), Ok(other)) => {
-            assert!(rt; *one == *other, "{bytes:?}");
+            assert!(rt; is_same(one, other), "{bytes:?}");
             if let Some(script) = &usual {
-                assert!(rt; *script == *other, "{bytes:?}");
+                assert!(rt; is_same(script, other), "{bytes:?}");
             }
         }
         (Err(one), Err(other)) => {
@@ -28,13 +84,33 @@ fn compare(rt: &impl Abort, alloc: Global, bytes: &[u8]) -> (bool, bool) {
     (usual.is_some(), here.is_ok())
 }
 
+/// Reads a script for its application both ways, and for the other one, which doesn't take it.
+fn compare_by(rt: &impl Abort, alloc: Global, app: AppName, bytes: &[u8]) -> (bool, bool) {
+    let (kv, stock) = (
+        compare::<KvRequest>(rt, alloc, bytes),
+        compare::<StockRequest>(rt, alloc, bytes),
+    );
+    match app {
+        AppName::Kv => {
+            assert_eq!(rt; stock, (false, false), "{bytes:?}");
+            kv
+        }
+        AppName::Stock => {
+            assert_eq!(rt; kv, (false, false), "{bytes:?}");
+            stock
+        }
+    }
+}
+
 #[test]
 fn drawn_scripts_are_usual(rt: HostRuntime) -> Result<(), Fail> {
     let mut generator = Pcg32::new(1, 7);
-    for _ in 0..300usize {
-        let text = script(&mut generator, rt.alloc())?;
-        let found = compare(&rt, rt.alloc(), text.as_bytes());
-        assert!(rt; found == (true, true), "{text}");
+    for app in [AppName::Kv, AppName::Stock] {
+        for _ in 0..200usize {
+            let text = script(&mut generator, rt.alloc(), app)?;
+            let found = compare_by(&rt, rt.alloc(), app, text.as_bytes());
+            assert!(rt; found == (true, true), "{text}");
+        }
     }
     Ok(())
 }
@@ -69,20 +145,25 @@ fn change(generator: &mut Pcg32, alloc: Global, text: &[u8]) -> Result<Vec<u8>, 
 #[test]
 fn changed_scripts(rt: HostRuntime) -> Result<(), Fail> {
     let mut generator = Pcg32::new(2, 7);
-    let (mut usual, mut scripts, mut all) = (0u32, 0u32, 0u32);
-    for _ in 0..400usize {
-        let text = script(&mut generator, rt.alloc())?;
-        for _ in 0..10usize {
-            let changed = change(&mut generator, rt.alloc(), text.as_bytes())?;
-            let found = compare(&rt, rt.alloc(), &changed);
-            usual = usual.wrapping_add(found.0 as u32);
-            scripts = scripts.wrapping_add(found.1 as u32);
-            all = all.wrapping_add(1);
+    for app in [AppName::Kv, AppName::Stock] {
+        let (mut usual, mut scripts, mut all) = (0u32, 0u32, 0u32);
+        for _ in 0..300usize {
+            let text = script(&mut generator, rt.alloc(), app)?;
+            for _ in 0..10usize {
+                let changed = change(&mut generator, rt.alloc(), text.as_bytes())?;
+                let found = match app {
+                    AppName::Kv => compare::<KvRequest>(&rt, rt.alloc(), &changed),
+                    AppName::Stock => compare::<StockRequest>(&rt, rt.alloc(), &changed),
+                };
+                usual = usual.wrapping_add(found.0 as u32);
+                scripts = scripts.wrapping_add(found.1 as u32);
+                all = all.wrapping_add(1);
+            }
         }
+        assert!(rt;
+            100 < usual && usual <= scripts && scripts < all,
+            "{usual} of {scripts} of {all}"
+        );
     }
-    assert!(rt;
-        100 < usual && usual <= scripts && scripts < all,
-        "{usual} of {scripts} of {all}"
-    );
     Ok(())
 }

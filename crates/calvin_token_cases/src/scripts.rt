@@ -1,4 +1,5 @@
 //! Drawn scripts.
+use calvin_script::AppName;
 use rand_core::utils::NextWord;
 use rand_pcg::Pcg32;
 use std::alloc::{AllocError, Global};
@@ -57,7 +58,7 @@ fn keys(
     joined(generator, alloc, all.as_slice())
 }
 
-fn operation(generator: &mut Pcg32, alloc: Global) -> Result<String, AllocError> {
+fn kv_operation(generator: &mut Pcg32, alloc: Global) -> Result<String, AllocError> {
     let (first, second) = (number(generator), number(generator));
     match draw(generator, 3) {
         0 => format!(in alloc; r#""op":["put",{first},{second}]"#),
@@ -69,13 +70,47 @@ fn operation(generator: &mut Pcg32, alloc: Global) -> Result<String, AllocError>
     }
 }
 
+/// An order of one to four lines of distinct items.
+fn order(generator: &mut Pcg32, alloc: Global) -> Result<String, AllocError> {
+    let (customer, own_number) = (number(generator), number(generator));
+    let mut lines = Vec::new(alloc);
+    let mut item = draw(generator, 100);
+    for _ in 0..draw(generator, 4).wrapping_add(1) {
+        item = item.wrapping_add(draw(generator, 50)).wrapping_add(1);
+        let pieces = draw(generator, 1_000_000_000).wrapping_add(1);
+        lines.push(format!(in alloc; "[{item},{pieces}]")?)?;
+    }
+    let lines = joined(generator, alloc, lines.as_slice())?;
+    format!(in alloc; r#""op":["order",{customer},{own_number},[{lines}]]"#)
+}
+
+fn stock_operation(generator: &mut Pcg32, alloc: Global) -> Result<String, AllocError> {
+    let (first, second, third) = (number(generator), number(generator), number(generator));
+    match draw(generator, 8) {
+        0 => format!(in alloc; r#""op":["additem",{first},{second},{third}]"#),
+        1 => format!(in alloc; r#""op":["restock",{first},{second}]"#),
+        2 => format!(in alloc; r#""op":["open",{first}]"#),
+        3 => format!(in alloc; r#""op":["payin",{first},{second}]"#),
+        4 => format!(in alloc; r#""op":["settle",{first}]"#),
+        5 => format!(in alloc; r#""op":["balance",{first}]"#),
+        _ => order(generator, alloc),
+    }
+}
+
+fn operation(generator: &mut Pcg32, alloc: Global, app: AppName) -> Result<String, AllocError> {
+    match app {
+        AppName::Kv => kv_operation(generator, alloc),
+        AppName::Stock => stock_operation(generator, alloc),
+    }
+}
+
 /// A request with its members in a drawn order. Its declared sets have a key.
-fn request(generator: &mut Pcg32, alloc: Global) -> Result<String, AllocError> {
+fn request(generator: &mut Pcg32, alloc: Global, app: AppName) -> Result<String, AllocError> {
     let mut members = Vec::new(alloc);
     let (client, number) = (draw(generator, 1000), draw(generator, 1000));
     members.push(format!(in alloc; r#""client":{client}"#)?)?;
     members.push(format!(in alloc; r#""number":{number}"#)?)?;
-    members.push(operation(generator, alloc)?)?;
+    members.push(operation(generator, alloc, app)?)?;
     if draw(generator, 2) == 0 {
         let attempt = draw(generator, 8).wrapping_add(1);
         members.push(format!(in alloc; r#""attempt":{attempt}"#)?)?;
@@ -90,10 +125,15 @@ fn request(generator: &mut Pcg32, alloc: Global) -> Result<String, AllocError> {
 }
 
 /// A batch of a few requests, with its members in a drawn order.
-fn batch(generator: &mut Pcg32, alloc: Global, group: u32) -> Result<String, AllocError> {
+fn batch(
+    generator: &mut Pcg32,
+    alloc: Global,
+    app: AppName,
+    group: u32,
+) -> Result<String, AllocError> {
     let mut requests = Vec::new(alloc);
     for _ in 0..draw(generator, 4) {
-        requests.push(request(generator, alloc)?)?;
+        requests.push(request(generator, alloc, app)?)?;
     }
     let requests = joined(generator, alloc, requests.as_slice())?;
     let mut members = Vec::new(alloc);
@@ -103,13 +143,13 @@ fn batch(generator: &mut Pcg32, alloc: Global, group: u32) -> Result<String, All
     format!(in alloc; "{{{members}}}")
 }
 
-/// A script of a few batches of the groups 0 and 1, with its members in a drawn order.
-pub fn script(generator: &mut Pcg32, alloc: Global) -> Result<String, AllocError> {
+/// A script of a few batches of the groups 0 and 1 for an application, with its members in a drawn order.
+pub fn script(generator: &mut Pcg32, alloc: Global, app: AppName) -> Result<String, AllocError> {
     let mut epochs = Vec::new(alloc);
     for _ in 0..draw(generator, 3) {
         let mut batches = Vec::new(alloc);
         for group in 0..draw(generator, 3) {
-            batches.push(batch(generator, alloc, group)?)?;
+            batches.push(batch(generator, alloc, app, group)?)?;
         }
         let batches = joined(generator, alloc, batches.as_slice())?;
         epochs.push(format!(in alloc; "[{batches}]")?)?;
@@ -117,7 +157,11 @@ pub fn script(generator: &mut Pcg32, alloc: Global) -> Result<String, AllocError
     let epochs = joined(generator, alloc, epochs.as_slice())?;
     let mut members = Vec::new(alloc);
     members.push(format!(in alloc; r#""partitions":2"#)?)?;
-    members.push(format!(in alloc; r#""app":"kv""#)?)?;
+    let name = match app {
+        AppName::Kv => "kv",
+        AppName::Stock => "stock",
+    };
+    members.push(format!(in alloc; r#""app":"{name}""#)?)?;
     members.push(format!(in alloc; r#""epochs":[{epochs}]"#)?)?;
     let members = joined(generator, alloc, members.as_slice())?;
     format!(in alloc; "{{{members}}}")

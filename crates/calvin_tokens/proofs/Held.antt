@@ -28,7 +28,7 @@ member_read f y holds deep small found name wanted ts rest x is le s h = rw is (
 
 module _ {Args : Type 0} (grammar : Grammar Args) (found : Members) (d : Data) where
   module _ (r : RequestMembers Args) (h : HoldsRequest grammar found r) where
-    pub client_held : (x : ℕ) → (below (2 ^ 32)) d ≡ Some x → HoldsRequest grammar (put (codes "client") d found) (record r { request = record r.request { txn = record r.request.txn { id = record { client = x; number = r.request.txn.id.number } } }; seen = record r.seen { client = true } })
+    pub client_held : (x : ℕ) → (below (2 ^ 32)) d ≡ Some x → HoldsRequest grammar (put (codes "client") d found) (record r { txn = record r.txn { id = record { client = x; number = r.txn.id.number } }; seen = record r.seen { client = true } })
     client_held x means = record {
       client = spelled_same (codes "client") d found (below (2 ^ 32)) x means;
       own_number = spelled_other (codes "client") d found (below (2 ^ 32)) (codes "number") _ refl h.own_number;
@@ -39,7 +39,7 @@ module _ {Args : Type 0} (grammar : Grammar Args) (found : Members) (d : Data) w
       named = named_put request_names (codes "client") d found refl h.named;
     }
 
-    pub own_number_held : (x : ℕ) → (below (2 ^ 32)) d ≡ Some x → HoldsRequest grammar (put (codes "number") d found) (record r { request = record r.request { txn = record r.request.txn { id = record { client = r.request.txn.id.client; number = x } } }; seen = record r.seen { number = true } })
+    pub own_number_held : (x : ℕ) → (below (2 ^ 32)) d ≡ Some x → HoldsRequest grammar (put (codes "number") d found) (record r { txn = record r.txn { id = record { client = r.txn.id.client; number = x } }; seen = record r.seen { number = true } })
     own_number_held x means = record {
       client = spelled_other (codes "number") d found (below (2 ^ 32)) (codes "client") _ refl h.client;
       own_number = spelled_same (codes "number") d found (below (2 ^ 32)) x means;
@@ -50,7 +50,7 @@ module _ {Args : Type 0} (grammar : Grammar Args) (found : Members) (d : Data) w
       named = named_put request_names (codes "number") d found refl h.named;
     }
 
-    pub op_held : (x : Args) → (grammar.operation nameless) d ≡ Some x → HoldsRequest grammar (put (codes "op") d found) (record r { request = record r.request { txn = record r.request.txn { args = x } }; seen = record r.seen { op = true } })
+    pub op_held : (x : Args) → (grammar.operation nameless) d ≡ Some x → HoldsRequest grammar (put (codes "op") d found) (record r { txn = record r.txn { args = x }; seen = record r.seen { op = true } })
     op_held x means = record {
       client = spelled_other (codes "op") d found (below (2 ^ 32)) (codes "client") _ refl h.client;
       own_number = spelled_other (codes "op") d found (below (2 ^ 32)) (codes "number") _ refl h.own_number;
@@ -61,7 +61,7 @@ module _ {Args : Type 0} (grammar : Grammar Args) (found : Members) (d : Data) w
       named = named_put request_names (codes "op") d found refl h.named;
     }
 
-    pub attempt_held : (x : ℕ) → (below (2 ^ 8)) d ≡ Some x → HoldsRequest grammar (put (codes "attempt") d found) (record r { request = record r.request { txn = record r.request.txn { attempt = x } } })
+    pub attempt_held : (x : ℕ) → (below (2 ^ 8)) d ≡ Some x → HoldsRequest grammar (put (codes "attempt") d found) (record r { txn = record r.txn { attempt = x } })
     attempt_held x means = record {
       client = spelled_other (codes "attempt") d found (below (2 ^ 32)) (codes "client") _ refl h.client;
       own_number = spelled_other (codes "attempt") d found (below (2 ^ 32)) (codes "number") _ refl h.own_number;
@@ -72,7 +72,7 @@ module _ {Args : Type 0} (grammar : Grammar Args) (found : Members) (d : Data) w
       named = named_put request_names (codes "attempt") d found refl h.named;
     }
 
-    pub reads_held : (x : List Key) → (key_set key) d ≡ Some x → HoldsRequest grammar (put (codes "reads") d found) (record r { request = record r.request { txn = record r.request.txn { sets = record { reads = x; writes = r.request.txn.sets.writes } } }; seen = record r.seen { reads = true } })
+    pub reads_held : (x : List Key) → (key_set key) d ≡ Some x → HoldsRequest grammar (put (codes "reads") d found) (record r { txn = record r.txn { sets = record { reads = x; writes = r.txn.sets.writes } }; seen = record r.seen { reads = true } })
     reads_held x means = record {
       client = spelled_other (codes "reads") d found (below (2 ^ 32)) (codes "client") _ refl h.client;
       own_number = spelled_other (codes "reads") d found (below (2 ^ 32)) (codes "number") _ refl h.own_number;
@@ -83,7 +83,7 @@ module _ {Args : Type 0} (grammar : Grammar Args) (found : Members) (d : Data) w
       named = named_put request_names (codes "reads") d found refl h.named;
     }
 
-    pub writes_held : (x : List Key) → (key_set key) d ≡ Some x → HoldsRequest grammar (put (codes "writes") d found) (record r { request = record r.request { txn = record r.request.txn { sets = record { reads = r.request.txn.sets.reads; writes = x } } }; seen = record r.seen { writes = true } })
+    pub writes_held : (x : List Key) → (key_set key) d ≡ Some x → HoldsRequest grammar (put (codes "writes") d found) (record r { txn = record r.txn { sets = record { reads = r.txn.sets.reads; writes = x } }; seen = record r.seen { writes = true } })
     writes_held x means = record {
       client = spelled_other (codes "writes") d found (below (2 ^ 32)) (codes "client") _ refl h.client;
       own_number = spelled_other (codes "writes") d found (below (2 ^ 32)) (codes "number") _ refl h.own_number;
@@ -94,7 +94,7 @@ module _ {Args : Type 0} (grammar : Grammar Args) (found : Members) (d : Data) w
       named = named_put request_names (codes "writes") d found refl h.named;
     }
 
-  module _ (b : BatchMembers Args) (h : HoldsBatch grammar found b) where
+  module _ (b : BatchMembers (Request Args)) (h : HoldsBatch grammar found b) where
     pub group_held : (x : ℕ) → below (2 ^ 8) d ≡ Some x → HoldsBatch grammar (put (codes "group") d found) (record b { group = Some x })
     group_held x means = record {
       group = spelled_same (codes "group") d found (below (2 ^ 8)) x means;
@@ -109,7 +109,7 @@ module _ {Args : Type 0} (grammar : Grammar Args) (found : Members) (d : Data) w
       named = named_put batch_names (codes "txns") d found refl h.named;
     }
 
-  module _ (s : ScriptMembers Args) (h : HoldsScript grammar found s) where
+  module _ (s : ScriptMembers (Request Args)) (h : HoldsScript grammar found s) where
     pub partitions_held : (x : ℕ) → between 1 16 d ≡ Some x → HoldsScript grammar (put (codes "partitions") d found) (record s { partitions = Some x })
     partitions_held x means = record {
       partitions = spelled_same (codes "partitions") d found (between 1 16) x means;
@@ -126,7 +126,7 @@ module _ {Args : Type 0} (grammar : Grammar Args) (found : Members) (d : Data) w
       named = named_put script_names (codes "app") d found refl h.named;
     }
 
-    pub epochs_held : (x : Vec (Epoch Args) Global) → list (list (batch grammar)) d ≡ Some (map all_listed x.items) → HoldsScript grammar (put (codes "epochs") d found) (record s { epochs = Some x })
+    pub epochs_held : (x : Vec (Epoch (Request Args)) Global) → list (list (batch grammar)) d ≡ Some (map all_listed x.items) → HoldsScript grammar (put (codes "epochs") d found) (record s { epochs = Some x })
     epochs_held x means = record {
       partitions = spelled_other (codes "epochs") d found (between 1 16) (codes "partitions") _ refl h.partitions;
       app = spelled_other (codes "epochs") d found as_str (codes "app") _ refl h.app;

@@ -2,6 +2,8 @@ pub mod Digits
 pub mod Turns
 pub mod Steps
 pub mod KeyTurns
+pub mod NumberTurns
+pub mod OrderTurns
 pub mod Operations
 pub mod Found
 pub mod Held

@@ -8,6 +8,7 @@ use Rattle.serde_json.specs.Find.{get_member, as_str}
 use Rattle.calvin_script.specs.Spelling.{below, between, list, are_named, optional}
 use Rattle.calvin_script.specs.KeyLists.{key, key_set}
 use Rattle.calvin_script.specs.Grammar.{Grammar}
+use Rattle.calvin_script.specs.declared.contents.Request.{Request}
 use Rattle.calvin_script.specs.Requests.{request_names, request}
 use Rattle.calvin_script.specs.Scripts.{all_listed, batch_names, batch, script_names}
 use Rattle.calvin_tokens.specs.declared.batch.BatchMembers.{BatchMembers}
@@ -23,20 +24,20 @@ given true x = Some (Some x)
 given false x = None
 
 pub record HoldsRequest {Args : Type 0} (grammar : Grammar Args) (found : Members) (r : RequestMembers Args) : Type 0 where
-  pub client : spelled_by (below (2 ^ 32)) (codes "client") found ≡ given r.seen.client r.request.txn.id.client
-  pub own_number : spelled_by (below (2 ^ 32)) (codes "number") found ≡ given r.seen.number r.request.txn.id.number
-  pub op : spelled_by (grammar.operation nameless) (codes "op") found ≡ given r.seen.op r.request.txn.args
-  pub attempt : optional 1 (below (2 ^ 8)) (get_member (codes "attempt") found) ≡ Some r.request.txn.attempt
-  pub reads : spelled_by (key_set key) (codes "reads") found ≡ given r.seen.reads r.request.txn.sets.reads
-  pub writes : spelled_by (key_set key) (codes "writes") found ≡ given r.seen.writes r.request.txn.sets.writes
+  pub client : spelled_by (below (2 ^ 32)) (codes "client") found ≡ given r.seen.client r.txn.id.client
+  pub own_number : spelled_by (below (2 ^ 32)) (codes "number") found ≡ given r.seen.number r.txn.id.number
+  pub op : spelled_by (grammar.operation nameless) (codes "op") found ≡ given r.seen.op r.txn.args
+  pub attempt : optional 1 (below (2 ^ 8)) (get_member (codes "attempt") found) ≡ Some r.txn.attempt
+  pub reads : spelled_by (key_set key) (codes "reads") found ≡ given r.seen.reads r.txn.sets.reads
+  pub writes : spelled_by (key_set key) (codes "writes") found ≡ given r.seen.writes r.txn.sets.writes
   pub named : are_named request_names found ≡ true
 
-pub record HoldsBatch {Args : Type 0} (grammar : Grammar Args) (found : Members) (b : BatchMembers Args) : Type 0 where
+pub record HoldsBatch {Args : Type 0} (grammar : Grammar Args) (found : Members) (b : BatchMembers (Request Args)) : Type 0 where
   pub group : spelled_by (below (2 ^ 8)) (codes "group") found ≡ option_map Some b.group
   pub requests : spelled_by (list (request grammar)) (codes "txns") found ≡ option_map (λ v. Some v.items) b.requests
   pub named : are_named batch_names found ≡ true
 
-pub record HoldsScript {Args : Type 0} (grammar : Grammar Args) (found : Members) (s : ScriptMembers Args) : Type 0 where
+pub record HoldsScript {Args : Type 0} (grammar : Grammar Args) (found : Members) (s : ScriptMembers (Request Args)) : Type 0 where
   pub partitions : spelled_by (between 1 16) (codes "partitions") found ≡ option_map Some s.partitions
   pub app : spelled_by as_str (codes "app") found ≡ given s.has_app grammar.app_name
   pub epochs : spelled_by (list (list (batch grammar))) (codes "epochs") found ≡ option_map (λ v. Some (map all_listed v.items)) s.epochs

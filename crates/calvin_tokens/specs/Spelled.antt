@@ -3,6 +3,7 @@
 --     ReadsItems, ReadsMembers      the same of what stands in an array, and in an object of which members were found before
 --     Spells f deep ts x rest      the tokens are those of data that spells x, and then the rest
 --     SpellsEach f deep ts xs rest      the same of what stands in an array
+--     SpellsBehind f deep ts x rest      the tokens are those of what follows a name in an array that spells x, whatever the name is, and then the rest
 --     SpellsOneMore f deep ts before after rest      the same of one thing, which was put behind a list
 --     key_or_end name      the name of a member, or the brace that closes its object
 --     MemberRead holds deep found name ts x rest      a member was read, and what was gathered is x
@@ -10,7 +11,7 @@
 use Rattle.std.specs.Prelude.{◌≡◌, ◌≤◌, ℕ, List, [], ◌∷◌, ◌++◌, length, Option, Some, None}
 use Rattle.json.specs.Token.{Token}
 use Rattle.json.specs.Json as json
-use Rattle.serde_json.specs.Data.{Data, object, Items, Members, put}
+use Rattle.serde_json.specs.Data.{Data, array, object, Items, item, Members, put}
 use Rattle.serde_json.specs.Read.{of_json, of_items, of_members, converted}
 use Rattle.calvin_script.specs.Spelling.{each}
 
@@ -32,6 +33,11 @@ pub record SpellsEach {A : Type 0} (f : Data → Option A) (deep : ℕ) (ts : Li
   pub pieces : Items
   pub reads : ReadsItems deep ts pieces rest
   pub means : each f pieces ≡ Some xs
+
+pub record SpellsBehind {A : Type 0} (f : Data → Option A) (deep : ℕ) (ts : List Token) (x : A) (rest : List Token) : Type 0 where
+  pub pieces : Items
+  pub reads : ReadsItems deep ts pieces rest
+  pub means : (name : Data) → f (array (item name pieces)) ≡ Some x
 
 pub record SpellsOneMore {A : Type 0} (f : Data → Option A) (deep : ℕ) (ts : List Token) (before after : List A) (rest : List Token) : Type 0 where
   pub one : A

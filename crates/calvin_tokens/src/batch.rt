@@ -7,18 +7,18 @@ use crate::list::{Piece, list_of};
 use crate::object::{Object, read_object};
 use crate::operation::OperationTokens;
 use crate::tokens::{is_same, u8_of};
-use calvin_script::{Epoch, GroupBatch, Request};
+use calvin_script::{Epoch, GroupBatch, Kept};
 use json::Reader;
 use std::alloc::Global;
 
 /// The members of a batch that were read.
 #[derive(Drop)]
-pub(crate) struct BatchMembers<Op> {
+pub(crate) struct BatchMembers<R> {
     group: Option<u8>,
-    requests: Option<Vec<Request<Op>>>,
+    requests: Option<Vec<R>>,
 }
 
-impl<Op: OperationTokens> Object for BatchMembers<Op> {
+impl<Op: OperationTokens> Object for BatchMembers<Kept<Op>> {
     ghost use Rattle.calvin_tokens.specs.Gathered.{HoldsBatch};
 
     ghost holds = { HoldsBatch Op.grammar };
@@ -39,7 +39,10 @@ impl<Op: OperationTokens> Object for BatchMembers<Op> {
 }
 
 /// The batch that the next tokens list for a group.
-fn read_batch<Op: OperationTokens>(alloc: Global, reader: &mut Reader<'_>) -> Option<GroupBatch<Op>>
+fn read_batch<Op: OperationTokens>(
+    alloc: Global,
+    reader: &mut Reader<'_>,
+) -> Option<GroupBatch<Kept<Op>>>
     ensures { IfSome result (λ b. Spells (batch Op.grammar) 124 reader.old (listed b) reader.new) }
 {
     let mut members = BatchMembers {
@@ -52,7 +55,7 @@ fn read_batch<Op: OperationTokens>(alloc: Global, reader: &mut Reader<'_>) -> Op
     GroupBatch::new(group, requests)
 }
 
-impl<Op: OperationTokens> Piece for GroupBatch<Op> {
+impl<Op: OperationTokens> Piece for GroupBatch<Kept<Op>> {
     ghost use Rattle.calvin_script.specs.Scripts.{Listed, listed, batch};
 
     ghost Meaning = { Listed Op };
@@ -70,7 +73,7 @@ impl<Op: OperationTokens> Piece for GroupBatch<Op> {
     fn push_tokens(
         alloc: Global,
         reader: &mut Reader<'_>,
-        found: &mut Vec<GroupBatch<Op>>,
+        found: &mut Vec<GroupBatch<Kept<Op>>>,
     ) -> Option<()> {
         let batch = read_batch(alloc, reader)?;
         let Ok(()) = found.push(batch) else {
@@ -80,7 +83,7 @@ impl<Op: OperationTokens> Piece for GroupBatch<Op> {
     }
 }
 
-impl<Op: OperationTokens> Piece for Epoch<Op> {
+impl<Op: OperationTokens> Piece for Epoch<Kept<Op>> {
     ghost use Rattle.std.specs.Prelude.{List};
     ghost use Rattle.calvin_script.specs.Spelling.{list};
     ghost use Rattle.calvin_script.specs.Scripts.{Listed, all_listed, batch};
@@ -100,7 +103,7 @@ impl<Op: OperationTokens> Piece for Epoch<Op> {
     fn push_tokens(
         alloc: Global,
         reader: &mut Reader<'_>,
-        found: &mut Vec<Epoch<Op>>,
+        found: &mut Vec<Epoch<Kept<Op>>>,
     ) -> Option<()> {
         let batches = list_of(alloc, reader)?;
         let Ok(()) = found.push(Epoch { batches }) else {

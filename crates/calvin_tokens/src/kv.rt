@@ -1,11 +1,8 @@
 //! The operations of the application Kv.
-ghost use Rattle.std.specs.Prelude.{◌^◌, ◌<◌, IfSome};
-ghost use Rattle.serde_json.specs.Data.{unsigned, number, item, no_items};
-ghost use Rattle.calvin_tokens.specs.Spelled.{ReadsItems};
-
 use crate::keys::{KeyTokens, read_key_set};
+use crate::numbers::{one_number, three_numbers, two_numbers};
 use crate::operation::OperationTokens;
-use crate::tokens::{closes_array, is_same, number, opens_array, string_at, u64_of};
+use crate::tokens::{closes_array, is_same, opens_array, string_at, u64_of};
 use calvin_app::KvRequest;
 use calvin_script::RowNumber;
 use calvin_types::{Key, KeySet, RequestId};
@@ -17,44 +14,6 @@ impl KeyTokens for RowNumber {
         let id = u64_of(reader)?;
         Some(Key { table: 0, id })
     }
-}
-
-/// The number that follows the name of an operation.
-#[tactic(auto, using(crate::proofs::Operations::one_read))]
-fn one_number(reader: &mut Reader<'_>) -> Option<u64>
-    ensures read { IfSome result (λ n. ReadsItems 0 reader.old (item (number (unsigned n)) no_items) reader.new) }
-    ensures below { IfSome result (λ n. n < 2 ^ 64) }
-{
-    let only = number(reader)?;
-    closes_array(reader)?;
-    Some(only)
-}
-
-/// The two numbers that follow the name of an operation.
-#[tactic(auto, using(crate::proofs::Operations::two_read))]
-fn two_numbers(reader: &mut Reader<'_>) -> Option<(u64, u64)>
-    ensures read { IfSome result (λ n. ReadsItems 0 reader.old
-        (item (number (unsigned n.0)) (item (number (unsigned n.1)) no_items)) reader.new) }
-    ensures below { IfSome result (λ n. (n.0 < 2 ^ 64) × (n.1 < 2 ^ 64)) }
-{
-    let first = number(reader)?;
-    let second = number(reader)?;
-    closes_array(reader)?;
-    Some((first, second))
-}
-
-/// The three numbers that follow the name of an operation.
-#[tactic(auto, using(crate::proofs::Operations::three_read))]
-fn three_numbers(reader: &mut Reader<'_>) -> Option<(u64, u64, u64)>
-    ensures read { IfSome result (λ n. ReadsItems 0 reader.old
-        (item (number (unsigned n.0)) (item (number (unsigned n.1)) (item (number (unsigned n.2)) no_items))) reader.new) }
-    ensures below { IfSome result (λ n. (n.0 < 2 ^ 64) × (n.1 < 2 ^ 64) × (n.2 < 2 ^ 64)) }
-{
-    let first = number(reader)?;
-    let second = number(reader)?;
-    let third = number(reader)?;
-    closes_array(reader)?;
-    Some((first, second, third))
 }
 
 impl OperationTokens for KvRequest {

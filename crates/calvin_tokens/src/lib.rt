@@ -6,10 +6,12 @@ mod batch;
 mod keys;
 mod kv;
 mod list;
+mod numbers;
 mod object;
 mod operation;
 mod request;
 mod script;
+mod stock;
 mod tokens;
 
 pub use keys::{KeyTokens, read_key_set};

@@ -1,5 +1,5 @@
 //! Requests, read from tokens.
-ghost use Rattle.std.specs.Prelude.{◌≡◌, Some, OnSome};
+ghost use Rattle.std.specs.Prelude.{◌≡◌, Some, IfSome};
 ghost use Rattle.serde_json.specs.Data.{Members, no_members, object};
 ghost use Rattle.calvin_script.specs.Requests.{request};
 ghost use Rattle.calvin_tokens.specs.Gathered.{HoldsRequest};
@@ -10,7 +10,7 @@ use crate::list::Piece;
 use crate::object::{Object, read_object};
 use crate::operation::OperationTokens;
 use crate::tokens::{is_same, u8_of, u32_of};
-use calvin_script::{Request, WholeKey};
+use calvin_script::{Kept, WholeKey};
 use calvin_types::{KeySet, MOST_REQUESTS, RequestId, Sets, Txn};
 use json::Reader;
 use std::alloc::Global;
@@ -28,7 +28,7 @@ pub(crate) struct Seen {
 /// A request as it is gathered from its members. Its operation has no name before all were read.
 #[derive(Clone, Copy)]
 pub(crate) struct RequestMembers<Op> {
-    request: Request<Op>,
+    txn: Txn<Op>,
     seen: Seen,
 }
 
@@ -56,38 +56,30 @@ impl<Op: OperationTokens> RequestMembers<Op> {
             reads: false,
             writes: false,
         };
-        RequestMembers {
-            request: Request {
-                txn,
-                is_declared: false,
-            },
-            seen,
-        }
+        RequestMembers { txn, seen }
     }
 
-    /// Makes the request whole when all members were read: its operation gets its name, and its sets are completed or,
-    /// where none were declared, are those that the operation needs where no row is known.
-    fn finish(&mut self) -> Option<()>
-        ensures { OnSome result ((found : Members) → HoldsRequest Op.grammar found self.old
-            → request Op.grammar (object found) ≡ Some self.new.request) }
+    /// The whole request when all members were read: its operation gets its name, and declared sets are completed.
+    fn finish(&mut self, alloc: Global) -> Option<Kept<Op>>
+        ensures { IfSome result (λ kept. (found : Members) → HoldsRequest Op.grammar found self.old
+            → request Op.grammar (object found) ≡ Some kept) }
     {
         if !self.seen.client || !self.seen.number || !self.seen.op {
             return None;
         }
-        self.request.txn.args.give_name(self.request.txn.id)?;
-        self.request.is_declared = self.seen.reads;
+        self.txn.args.give_name(self.txn.id)?;
+        let (id, attempt) = (self.txn.id, self.txn.attempt);
         if self.seen.reads && self.seen.writes {
-            self.request.txn.args.complete(&mut self.request.txn.sets)?;
-            return Some(());
+            self.txn.args.complete(&mut self.txn.sets)?;
+            let Ok(declared) = Box::new(alloc, self.txn.sets) else {
+                return None;
+            };
+            return Some(Kept::new(id, attempt, self.txn.args, Some(declared)));
         }
-        if self.seen.reads || self.seen.writes || self.request.txn.has_key() {
+        if self.seen.reads || self.seen.writes {
             return None;
         }
-        self.request
-            .txn
-            .args
-            .add_first_sets(&mut self.request.txn.sets);
-        Some(())
+        Some(Kept::new(id, attempt, self.txn.args, None))
     }
 }
 
@@ -100,39 +92,39 @@ impl<Op: OperationTokens> Object for RequestMembers<Op> {
 
     fn read_member(&mut self, _alloc: Global, reader: &mut Reader<'_>, name: &str) -> Option<()> {
         if is_same(name, "client") {
-            self.request.txn.id.client = u32_of(reader)?;
+            self.txn.id.client = u32_of(reader)?;
             self.seen.client = true;
             return Some(());
         }
         if is_same(name, "number") {
-            self.request.txn.id.number = u32_of(reader)?;
+            self.txn.id.number = u32_of(reader)?;
             self.seen.number = true;
             return Some(());
         }
         if is_same(name, "op") {
-            self.request.txn.args.read_tokens(reader)?;
+            self.txn.args.read_tokens(reader)?;
             self.seen.op = true;
             return Some(());
         }
-        if is_same(name, "reads") && self.request.txn.sets.reads.is_empty() {
-            read_key_set::<WholeKey>(reader, &mut self.request.txn.sets.reads)?;
+        if is_same(name, "reads") && self.txn.sets.reads.is_empty() {
+            read_key_set::<WholeKey>(reader, &mut self.txn.sets.reads)?;
             self.seen.reads = true;
             return Some(());
         }
-        if is_same(name, "writes") && self.request.txn.sets.writes.is_empty() {
-            read_key_set::<WholeKey>(reader, &mut self.request.txn.sets.writes)?;
+        if is_same(name, "writes") && self.txn.sets.writes.is_empty() {
+            read_key_set::<WholeKey>(reader, &mut self.txn.sets.writes)?;
             self.seen.writes = true;
             return Some(());
         }
         if is_same(name, "attempt") {
-            self.request.txn.attempt = u8_of(reader)?;
+            self.txn.attempt = u8_of(reader)?;
             return Some(());
         }
         None
     }
 }
 
-impl<Op: OperationTokens> Piece for Request<Op> {
+impl<Op: OperationTokens> Piece for Kept<Op> {
     ghost use Rattle.calvin_script.specs.declared.contents.Request.{Request};
     ghost use Rattle.calvin_script.specs.Requests.{request};
 
@@ -151,12 +143,12 @@ impl<Op: OperationTokens> Piece for Request<Op> {
     fn push_tokens(
         alloc: Global,
         reader: &mut Reader<'_>,
-        found: &mut Vec<Request<Op>>,
+        found: &mut Vec<Kept<Op>>,
     ) -> Option<()> {
         let mut members = RequestMembers::new();
         read_object(alloc, reader, &mut members)?;
-        members.finish()?;
-        let Ok(()) = found.push(members.request) else {
+        let kept = members.finish(alloc)?;
+        let Ok(()) = found.push(kept) else {
             return None;
         };
         Some(())

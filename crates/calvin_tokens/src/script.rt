@@ -8,21 +8,21 @@ use crate::list::list_of;
 use crate::object::{Object, read_object};
 use crate::operation::OperationTokens;
 use crate::tokens::{between, is_same, string_at};
-use calvin_script::{Epoch, Script};
+use calvin_script::{Epoch, Kept, Script};
 use calvin_types::{Fault, MOST_PARTITIONS};
 use json::{Reader, Scratch};
 use std::alloc::Global;
 
 /// The members of a script that were read.
 #[derive(Drop)]
-pub(crate) struct ScriptMembers<Op> {
+pub(crate) struct ScriptMembers<R> {
     partitions: Option<u8>,
     /// Its application was read, and is the wanted one.
     has_app: bool,
-    epochs: Option<Vec<Epoch<Op>>>,
+    epochs: Option<Vec<Epoch<R>>>,
 }
 
-impl<Op: OperationTokens> Object for ScriptMembers<Op> {
+impl<Op: OperationTokens> Object for ScriptMembers<Kept<Op>> {
     ghost use Rattle.calvin_tokens.specs.Gathered.{HoldsScript};
 
     ghost holds = { HoldsScript Op.grammar };
@@ -50,7 +50,10 @@ impl<Op: OperationTokens> Object for ScriptMembers<Op> {
 }
 
 /// The script that the next tokens spell.
-fn read_script<Op: OperationTokens>(alloc: Global, reader: &mut Reader<'_>) -> Option<Script<Op>>
+fn read_script<Op: OperationTokens>(
+    alloc: Global,
+    reader: &mut Reader<'_>,
+) -> Option<Script<Kept<Op>>>
     ensures { IfSome result (λ s. Spells (script Op.grammar) 127 reader.old (contents s) reader.new) }
 {
     let mut members = ScriptMembers {
@@ -71,7 +74,7 @@ fn read_script<Op: OperationTokens>(alloc: Global, reader: &mut Reader<'_>) -> O
 /// the whole JSON. There is no answer for other bytes, scripts or not, nor where memory runs out.
 ///
 /// As usual are members in any order, numbers in digits alone, and no set of declared keys given twice.
-pub fn usual_script<Op: OperationTokens>(alloc: Global, bytes: &[u8]) -> Option<Script<Op>>
+pub fn usual_script<Op: OperationTokens>(alloc: Global, bytes: &[u8]) -> Option<Script<Kept<Op>>>
     ensures { IfSome result (λ s. script_from Op.grammar bytes.now ≡ Ok (contents s)) }
 {
     let Ok(text) = simdutf8::compat::from_utf8(bytes) else {
@@ -90,7 +93,10 @@ pub fn usual_script<Op: OperationTokens>(alloc: Global, bytes: &[u8]) -> Option<
 
 /// The script that bytes are, for an application. Refused with `BadJson` where the bytes aren't JSON, with `BadScript`
 /// where the JSON doesn't have the form of a script for this application, and with `OutOfMemory`.
-pub fn script_from<Op: OperationTokens>(alloc: Global, bytes: &[u8]) -> Result<Script<Op>, Fault>
+pub fn script_from<Op: OperationTokens>(
+    alloc: Global,
+    bytes: &[u8],
+) -> Result<Script<Kept<Op>>, Fault>
     ensures { Reads contents result (script_from Op.grammar bytes.now) }
 {
     match usual_script(alloc, bytes) {

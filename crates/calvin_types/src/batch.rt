@@ -46,7 +46,7 @@ impl<Args: Copy> Batch<Args> {
     pub fn new(alloc: Global, txns: Vec<Txn<Args>>) -> Result<Batch<Args>, Fault>
         ensures ok { IfOk result (λ b. b ≡ txns.items) }
         ensures long { IsErrOf result Fault.TooLong ↔ (MOST_REQUESTS < length txns.items) }
-        ensures faults { IfErr result (λ fault. (fault ≡ Fault.TooLong) ⊎ (fault ≡ Fault.OutOfMemory)) }
+        ensures only { IfErr result (λ fault. (fault ≡ Fault.TooLong) ⊎ (fault ≡ Fault.OutOfMemory)) }
     {
         if txns.len() > MOST_REQUESTS {
             return Err(Fault::TooLong);
@@ -81,7 +81,7 @@ impl<Args: Copy> Batch<Args> {
     /// are 2^63 - 1 owners.
     pub fn copy(&self) -> Result<Batch<Args>, Fault>
         ensures ok { IfOk result (λ b. b ≡ self.now) }
-        ensures err { IsOkUnless result Fault.OutOfMemory }
+        ensures only { IsOkUnless result Fault.OutOfMemory }
     {
         Ok(self.clone()?)
     }

@@ -22,7 +22,7 @@ impl Config {
         ensures partitions { IfOk result (λ c. c.partitions ≡ partitions) }
         ensures replicas { IfOk result (λ c. c.replicas ≡ replicas) }
         ensures ok { IsOk result ↔ IsInRange partitions replicas }
-        ensures err { IsOkUnless result Fault.BadConfig }
+        ensures only { IsOkUnless result Fault.BadConfig }
     {
         if partitions == 0
             || partitions > MOST_PARTITIONS

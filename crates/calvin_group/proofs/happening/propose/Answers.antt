@@ -13,7 +13,7 @@ returns-in_err-mail-clause-step g c =
 pub returns-in_err-batch-clause-step : goal.returns-in_err-batch-clause-step
 returns-in_err-batch-clause-step g c =
     let p = err_from_is_err_and c.from_residual-in_err-batch.result c.from_residual-in_err-batch.ensures.1 in
-    rw (p.1, p.2) (proposed_full _ _ c.args.packets.now.items c.requires _ _ (slice_get-get_or _ _ _ c.if-at-members.false) c.args.slot c.args.batch.now _ false (c.in_ok-mail.ensures c.args.batch.now) _ c.in_err-batch.ensures.err)
+    rw (p.1, p.2) (proposed_full _ _ c.args.packets.now.items c.requires _ _ (slice_get-get_or _ _ _ c.if-at-members.false) c.args.slot c.args.batch.now _ false (c.in_ok-mail.ensures c.args.batch.now) _ c.in_err-batch.ensures.only)
 
 pub returns-clause-step : goal.returns-clause-step
 returns-clause-step g c =

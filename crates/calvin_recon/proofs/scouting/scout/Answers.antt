@@ -3,8 +3,8 @@ use Rattle.calvin_recon.specs.Scouting.{next, scouted}
 use Rattle.calvin_recon.proofs.Rounds.{same_sets_exact, scouted_more, scouted_found, scouted_end}
 use Rattle.calvin_recon.proofs.scouting.scout.Goals as goal
 
-pub returns-then-eq-clause-scouted : goal.returns-then-eq-clause-scouted
-returns-then-eq-clause-scouted g c =
+pub returns-then-eq-clause-found : goal.returns-then-eq-clause-found
+returns-then-eq-clause-found g c =
     let m = g.A.App.meaning in
     let rows = g.L.Look.shown c.args.rows.now in
     let n = 16 - (c.loop-look._look + 1) in
@@ -28,8 +28,8 @@ loop-look-preserved g c =
     sym (scouted_more m c.args.args.now rows n c.loop-look.sets c.sets-next.result is (sym c.eq.ensures ∙ c.if-eq.false))
     ∙ sym (ap (λ k. scouted m c.args.args.now rows k c.loop-look.sets) more) ∙ c.loop-look.invariant
 
-pub returns-clause-scouted : goal.returns-clause-scouted
-returns-clause-scouted g c =
+pub returns-clause-found : goal.returns-clause-found
+returns-clause-found g c =
     let m = g.A.App.meaning in
     let rows = g.L.Look.shown c.args.rows.now in
     let none : 16 - c.loop-look._look ≡ 0 = omega arith in

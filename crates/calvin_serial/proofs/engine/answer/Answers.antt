@@ -1,10 +1,20 @@
-use Rattle.std.proofs.Common.{◌≡◌, rules}
-use Rattle.calvin_script.specs.Scripts.{contents}
-use Rattle.calvin_serial.proofs.Usual.{usual_text, text_reads}
+use Rattle.std.proofs.Common.{◌≡◌, ap}
+use Rattle.calvin_app.specs.Kv.{kv}
+use Rattle.calvin_stock.specs.Stock.{stock}
+use Rattle.calvin_script.specs.KvOperations.{kv_grammar}
+use Rattle.calvin_script.specs.StockOperations.{stock_grammar}
+use Rattle.calvin_text.specs.Texts.{kv_text, stock_text}
+use Rattle.calvin_serial.proofs.Usual.{usual_text, kv_text_in, stock_text_in}
 use Rattle.calvin_serial.proofs.engine.answer.Goals as goal
 
 pub returns-in-Some : goal.returns-in-Some
 returns-in-Some c =
-    let same : c.deref.result.now ≡ c.args.bytes.items = search rules in
-    let read = c.in-Some.ensures in
-    text_reads c.text_of.result _ _ (usual_text c.args.bytes.items (contents c.in-Some.script) (rw same at read)) c.text_of.ensures.text c.text_of.ensures.only
+    let read = c.in-Some.ensures.text in
+    rw (usual_text kv kv_grammar kv_text c.args.sets (kv_text_in c.args.sets) c.args.bytes.items read.0 read.1) read.2
+
+pub returns-in-Some-usual_answer : goal.returns-in-Some-usual_answer
+returns-in-Some-usual_answer c =
+    let kept : c.usual_answer.new.bytes ≡ c.args.bytes = c.usual_answer.ensures.kept c.in_default.is in
+    let read = c.in-Some-usual_answer.ensures.text in
+    let same = ap (λ b. b.items) kept in
+    rw (usual_text stock stock_grammar stock_text c.args.sets (stock_text_in c.args.sets) c.args.bytes.items read.0 (rw same at read.1)) read.2

@@ -1,40 +1,40 @@
-use Rattle.std.proofs.Common.{◌≡◌, ℕ, ◌-◌, ◌++◌, ◌∙◌, sym, length, map, arith}
+use Rattle.std.proofs.Common.{◌≡◌, ℕ, ◌+◌, ◌-◌, ◌<◌, ◌++◌, ◌∙◌, ap, sym, length, Ok, arith}
 use Rattle.std.proofs.lemmas.List.{length-map}
-use Rattle.std.specs.FinMap.{empty}
-use Rattle.calvin_app.specs.Serial as spec
-use Rattle.calvin_order.specs.Merged.{stretch, order}
-use Rattle.calvin_script.specs.Scripts.{contents, batch_at, all_listed}
-use Rattle.calvin_text.specs.Texts.{lines, finished}
-use Rattle.calvin_serial.proofs.Runs.{epoch_run, all_run}
+use Rattle.calvin_script.specs.Scripts.{contents, all_listed}
+use Rattle.calvin_text.specs.Texts.{finished}
+use Rattle.calvin_serial.proofs.Runs.{epoch_order, text_from, epoch_run, all_run}
 use Rattle.calvin_serial.proofs.engine.text_of.Goals as goal
-
-pub loop-epoch-init : goal.loop-epoch-init
-loop-epoch-init g c =
-    let m = g.A.App.meaning in
-    let show = g.A.Reply.Printed.printed in
-    let B = batch_at (contents c.args.script.now) in
-    let parts : ℕ = c.args.script.now.partitions in
-    let n : ℕ = length c.args.script.now.epochs.items in
-    let all : n - 0 ≡ n = omega arith in
-    λ i. c.new-text.ensures.items i ++ lines show (stretch parts B 0 (all i)) (spec.serial m (map (λ e. e.1) (stretch parts B 0 (all i))) (c.new-store.ensures i)).1
+use Rattle.calvin_serial.proofs.engine.text_of.Goals.{in-First+in_ok-push_epoch-in-First, in-Scouted+in_ok-push_scouted_epoch-in-Scouted}
 
 pub loop-epoch-preserved : goal.loop-epoch-preserved
 loop-epoch-preserved g c =
-    let B = batch_at (contents c.args.script.now) in
-    let parts : ℕ = c.args.script.now.partitions in
-    epoch_run g.A.App.meaning g.A.Reply.Printed.printed parts B c.loop-epoch.epoch (length c.args.script.now.epochs.items) c.loop-epoch.store c.push_epoch.new.store c.loop-epoch.text.items c.push_epoch.new.text.items _
-    (omega (arith, c.loop-epoch-test.true, c.len-epoch-end.ensures, c.args.script.now.epochs.ok.0)) c.in_ok-push_epoch.ensures.rows c.in_ok-push_epoch.ensures.lines c.loop-epoch.invariant
+    let m = g.A.App.meaning in
+    let show = g.A.Reply.Printed.printed in
+    let script = contents c.args.script.now in
+    let sets = c.args.sets in
+    let now = c.loop-epoch in
+    let e : ℕ = now.epoch in
+    let n : ℕ = length c.args.script.now.epochs.items in
+    let within : e < n = omega (arith, c.loop-epoch-test.true, c.len-epoch-end.ensures, c.args.script.now.epochs.ok.0) in
+    elim c.match-sets.branch [
+      | in-First+in_ok-push_epoch-in-First w ↦
+          let new = w.push_epoch.new in
+          (λ i. text_from m show script sets (w.text-is i).items (w.store-is i) (e + 1) (n - (e + 1)))
+          ∙ epoch_run m show script sets now.store new.store now.text.items new.text.items e n _ _ within
+          (ap (epoch_order m show script sets now.store e) w.in-First.is) w.in_ok-push_epoch-in-First.ensures.ok now.invariant
+      | in-Scouted+in_ok-push_scouted_epoch-in-Scouted w ↦
+          let new = w.push_scouted_epoch.new in
+          (λ i. text_from m show script sets (w.text-is i).items (w.store-is i) (e + 1) (n - (e + 1)))
+          ∙ epoch_run m show script sets now.store new.store now.text.items new.text.items e n _ _ within
+          (ap (epoch_order m show script sets now.store e) w.in-Scouted.is) w.in_ok-push_scouted_epoch-in-Scouted.ensures.ok now.invariant
+    ]
 
 pub returns-clause-text : goal.returns-clause-text
 returns-clause-text g c =
-    let m = g.A.App.meaning in
-    let show = g.A.Reply.Printed.printed in
-    let B = batch_at (contents c.args.script.now) in
-    let parts : ℕ = c.args.script.now.partitions in
+    let script = contents c.args.script.now in
     let n : ℕ = length c.args.script.now.epochs.items in
     let none : n - c.loop-epoch.epoch ≡ 0 = omega (arith, c.loop-epoch-test.false, c.len-epoch-end.ensures, c.args.script.now.epochs.ok.0) in
     let as_many : c.len.result ≡ n = omega (arith, c.len.ensures, c.args.script.now.epochs.ok.0) in
     let listed = sym (length-map c.args.script.now.epochs.items all_listed) in
-    let lines_are = all_run m show parts B c.loop-epoch.epoch n c.loop-epoch.store c.loop-epoch.store c.loop-epoch.text.items c.loop-epoch.text.items _ none c.loop-epoch.invariant in
-    c.in_ok-push_finished.ensures ∙ (λ i. lines_are i ++ finished (as_many i))
-    ∙ (λ i. lines show (order parts B (listed i)) (spec.serial m (map (λ e. e.1) (order parts B (listed i))) empty).1 ++ finished (listed i))
+    all_run g.A.App.meaning g.A.Reply.Printed.printed script c.args.sets c.loop-epoch.text.items c.loop-epoch.store c.loop-epoch.epoch n _ listed none c.loop-epoch.invariant
+    ∙ ap Ok (sym (c.in_ok-push_finished.ensures ∙ ap (λ k. c.loop-epoch.text.items ++ finished k) (as_many ∙ listed)))

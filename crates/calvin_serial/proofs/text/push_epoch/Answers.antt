@@ -1,6 +1,7 @@
 use Rattle.std.proofs.Common.{◌++◌, sym, ap, ◌∙◌, map, vec_len, append-nil, arith}
 use Rattle.std.proofs.lemmas.Bool.{eqb-true}
-use Rattle.calvin_app.specs.Serial.{serial}
+use Rattle.calvin_types.specs.declared.txn.Txn.{Txn}
+use Rattle.calvin_app.specs.Serial.{serial, after_one, answer_one}
 use Rattle.calvin_script.specs.Scripts.{contents}
 use Rattle.calvin_text.specs.Texts.{line, lines}
 use Rattle.calvin_serial.proofs.Blanks.{none_listed}
@@ -8,18 +9,15 @@ use Rattle.calvin_serial.proofs.Requests.{placed_txn, txns_merged}
 use Rattle.calvin_serial.proofs.Runs.{one_line, one_row}
 use Rattle.calvin_serial.proofs.text.push_epoch.Goals as goal
 
-pub returns-then-is_empty-clause-lines : goal.returns-then-is_empty-clause-lines
-returns-then-is_empty-clause-lines g c =
+pub returns-then-is_empty-clause-ok : goal.returns-then-is_empty-clause-ok
+returns-then-is_empty-clause-ok g c =
     let m = g.A.App.meaning in
     let none = eqb-true (vec_len c.index.result.now.batches) 0 (sym c.is_empty.ensures ∙ c.if-is_empty.true) in
     let nothing = none_listed c.args.script.now c.args.epoch c.index.result.now c.requires.within c.index.ensures (omega (arith, none, c.index.result.now.batches.ok.0)) in
-    sym (append-nil c.args.text.now.items) ∙ ap (λ placed. c.args.text.now.items ++ lines g.A.Reply.Printed.printed placed (serial m (map (λ e. e.1) placed) c.args.store.now).1) (sym nothing)
-
-pub returns-then-is_empty-clause-rows : goal.returns-then-is_empty-clause-rows
-returns-then-is_empty-clause-rows g c =
-    let none = eqb-true (vec_len c.index.result.now.batches) 0 (sym c.is_empty.ensures ∙ c.if-is_empty.true) in
-    let nothing = none_listed c.args.script.now c.args.epoch c.index.result.now c.requires.within c.index.ensures (omega (arith, none, c.index.result.now.batches.ok.0)) in
-    ap (λ placed. (serial g.A.App.meaning (map (λ e. e.1) placed) c.args.store.now).0) (sym nothing)
+    record {
+      added = sym (append-nil c.args.text.now.items) ∙ ap (λ placed. c.args.text.now.items ++ lines g.A.Reply.Printed.printed placed (serial m (map (λ e. e.1) placed) c.args.store.now).1) (sym nothing);
+      after = ap (λ placed. (serial m (map (λ e. e.1) placed) c.args.store.now).0) (sym nothing);
+    }
 
 pub loop-place-init : goal.loop-place-init
 loop-place-init g c =
@@ -35,13 +33,15 @@ pub loop-place-preserved : goal.loop-place-preserved
 loop-place-preserved g c =
     let m = g.A.App.meaning in
     let show = g.A.Reply.Printed.printed in
-    let t = c.in-Some.request.now.txn in
+    let t = c.in-Some.kept.now.txn in
     let order = map placed_txn c.loop-place.place-iterator in
     let rest = map placed_txn c.next.new.self in
     let here = ap (map placed_txn) c.in-Some.ensures.steps in
-    let rows_are = c.in_ok-apply_into.ensures.ok in
-    let more = c.in_ok-push_line.ensures ∙ ap (λ a. c.loop-place.text.items ++ line show c.in-Some.place t.id a) c.in_ok-apply_into.ensures.answer in
+    let pushed = c.in_ok-push_request.ensures in
+    let new = c.push_request.new in
+    let rows_are = pushed.rows ∙ ap (λ (u : Txn g.row.A-Args.Denot). after_one m u c.loop-place.store) c.put_into.ensures in
+    let more = pushed.line ∙ ap (λ (u : Txn g.row.A-Args.Denot). c.loop-place.text.items ++ line show c.in-Some.place u.id (answer_one m u c.loop-place.store)) c.put_into.ensures in
     record {
-      text = one_line m show c.in-Some.place t order rest here c.loop-place.store c.apply_into.new.self rows_are c.loop-place.text.items c.push_line.new.text.items _ more c.loop-place.invariant.text;
-      rows = one_row m show c.in-Some.place t order rest here c.loop-place.store c.apply_into.new.self rows_are _ c.loop-place.invariant.rows;
+      text = one_line m show c.in-Some.place t order rest here c.loop-place.store new.store rows_are c.loop-place.text.items new.text.items _ more c.loop-place.invariant.text;
+      rows = one_row m show c.in-Some.place t order rest here c.loop-place.store new.store rows_are _ c.loop-place.invariant.rows;
     }

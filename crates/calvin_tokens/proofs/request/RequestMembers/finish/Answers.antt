@@ -1,17 +1,19 @@
-use Rattle.std.proofs.Common.{Some, sym, ap, ◌∙◌}
+use Rattle.std.proofs.Common.{true, Some, sym, ap, ◌∙◌}
 use Rattle.calvin_tokens.proofs.Whole.{without_sets, with_sets}
 use Rattle.calvin_tokens.proofs.request.RequestMembers.finish.Goals as goal
 
 pub returns-then-self-2 : goal.returns-then-self-2
 returns-then-self-2 g c found h =
     let r = c.args.self.now in
-    with_sets g.Op.Operation.grammar found r c.give_name.new.self h c.if-not-self.false c.if-not-self-2.false c.if-not-self-3.false c.in_ok-give_name.ensures
+    let args = c.give_name.new.self in
+    with_sets g.Op.Operation.grammar found r args h c.if-not-self.false c.if-not-self-2.false c.if-not-self-3.false c.in_ok-give_name.ensures
     c.complete.new.sets c.if-self.true c.if-self-2.true c.in_ok-complete.ensures
-    ∙ ap (λ b. Some (record { txn = record { id = r.request.txn.id; attempt = r.request.txn.attempt; args = c.give_name.new.self; sets = c.complete.new.sets }; is_declared = b })) (sym c.if-self.true)
+    ∙ (λ i. Some (record { txn = record { id = r.txn.id; attempt = r.txn.attempt; args = args; sets = sym c.in-Ok.ensures.ok i }; is_declared = true }))
+    ∙ ap Some (sym c.new-then-self-2.ensures)
 
 pub returns : goal.returns
 returns g c found h =
     let r = c.args.self.now in
     without_sets g.Op.Operation.grammar found r c.give_name.new.self h c.if-not-self.false c.if-not-self-2.false c.if-not-self-3.false c.in_ok-give_name.ensures
     c.if-self-3.false c.if-self-4.false
-    ∙ (λ i. Some (record { txn = record { id = r.request.txn.id; attempt = r.request.txn.attempt; args = c.give_name.new.self; sets = sym c.add_first_sets.ensures i }; is_declared = sym c.if-self-3.false i }))
+    ∙ ap Some (sym c.new-2.ensures)

@@ -1,0 +1,9 @@
+use Rattle.std.proofs.Common.{map}
+use Rattle.calvin.proofs.Words.{is_plain_line, is_scout_line}
+use Rattle.calvin.proofs.command.command.Goals as goal
+
+pub returns-in-Ok-Serial-clause-plain : goal.returns-in-Ok-Serial-clause-plain
+returns-in-Ok-Serial-clause-plain g c = is_plain_line (map g.W.AsStr.text c.args.words.now)
+
+pub returns-in-Ok-Serial-clause-scout : goal.returns-in-Ok-Serial-clause-scout
+returns-in-Ok-Serial-clause-scout g c = is_scout_line (map g.W.AsStr.text c.args.words.now)

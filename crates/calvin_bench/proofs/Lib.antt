@@ -1,0 +1,12 @@
+pub mod Placing
+pub mod KeyRows
+pub mod SerialRows
+pub mod Insertions
+pub mod LocalKeys
+pub mod FromPlace
+pub mod Versions
+pub mod OneReplica
+pub mod Growth
+pub mod Lists
+pub mod ManyReplicas
+pub mod Deeds

@@ -1,0 +1,99 @@
+-- Sums over the values of a map's entries.
+use Rattle.std.proofs.Common.{◌≡◌, ℕ, ◌+◌, ◌≤◌, Bool, true, false, cond, if◌then◌else◌, List, [], ◌∷◌, Option, Some, None, is_some, get_or, position, refl, sym, ap, subst, ◌∙◌, arith, OnSome, OnOk, IfOk, Result, Ok, Err}
+use Rattle.std.proofs.lemmas.Bool.{false≢true}
+use Rattle.std.proofs.lemmas.Option.{none-some, same_Some, slice_get-map, slice_get-get_or}
+use Rattle.std.proofs.lemmas.List.Sums.{sum_by-cons, sum_by_push, sum_by-swap_remove, sum_by-le}
+use Rattle.std.proofs.lemmas.Map.Views.{All-values_from_lookup}
+use Rattle.std.proofs.lemmas.Map.Entries.{place_from_lookup}
+use Rattle.std.specs.Cmp.{IsEquivalence}
+use Rattle.std.specs.List.{sum_by, swap_remove, IsDistinct}
+use Rattle.std.specs.Option.{option_map, IfSome}
+use Rattle.std.specs.Map.{lookup, keys_of, values_of}
+use Rattle.indexmap.specs.IndexMap.{insert_entry, swap_remove_entry}
+use Rattle.indexmap.proofs.MapLemmas.{Found-position, some_index, swap_remove_entry-found}
+
+pub on_some : {X P : Type 0} (o : Option X) → OnSome o P → is_some o ≡ true → P
+on_some None of some = absurd (false≢true some)
+on_some (Some x) of some = of
+
+pub on_ok : {X E P : Type 0} (r : Result X E) (x : X) → r ≡ Ok x → OnOk r P → P
+on_ok (Ok y) x is of = of
+on_ok (Err e) x is of = absurd (cc)
+
+pub if_ok : {X E : Type 0} (r : Result X E) (x : X) (P : X → Type 0) → r ≡ Ok x → IfOk r P → P x
+if_ok (Ok y) x P is of = subst P (ap (λ s. ok_or y s) is) of
+  where
+    ok_or : {Y F : Type 0} → Y → Result Y F → Y
+    ok_or d (Ok z) = z
+    ok_or d (Err e) = d
+if_ok (Err e) x P is of = absurd (cc)
+
+module _ {K X : Type 0} (f : X → ℕ) where
+  sum_values : (es : List (K × X)) → sum_by f (values_of es) ≡ sum_by (λ (e : K × X). f e.1) es
+  sum_values [] = refl
+  sum_values (e ∷ es) = sum_by-cons f e.1 (values_of es) ∙ ap (λ n. f e.1 + n) (sum_values es) ∙ sym (sum_by-cons (λ (e : K × X). f e.1) e es)
+
+  -- with a new entry
+  pub sum_new : (eq : K → K → Bool) (k : K) (v : X) (es : List (K × X)) → lookup (eq k) es ≡ None → sum_by f (values_of (insert_entry eq es k v)) ≡ sum_by f (values_of es) + f v
+  sum_new eq k v [] none = sum_by_push f [] v
+  sum_new eq k v (e ∷ es) none = go (eq k e.0) refl none (λ rest. sum_new eq k v es rest)
+    where
+      go : (b : Bool) → eq k e.0 ≡ b → cond b (Some e.1) (lookup (eq k) es) ≡ None → (lookup (eq k) es ≡ None → sum_by f (values_of (insert_entry eq es k v)) ≡ sum_by f (values_of es) + f v)
+          → sum_by f (values_of (if eq k e.0 then (e.0, v) ∷ es else e ∷ insert_entry eq es k v)) ≡ sum_by f (values_of (e ∷ es)) + f v
+      go true is found more = absurd (none-some e.1 (sym found))
+      go false is found more =
+          let here = ap (λ b. sum_by f (values_of (if b then (e.0, v) ∷ es else e ∷ insert_entry eq es k v))) is ∙ sum_by-cons f e.1 (values_of (insert_entry eq es k v)) in
+          let old = sum_by-cons f e.1 (values_of es) in
+          let rest = more found in
+          omega (arith, here, old, rest)
+
+  -- without an entry, in whose place the last one is put
+  pub sum_gone : (test : K → Bool) (v : X) (es : List (K × X)) → lookup test es ≡ Some v → sum_by f (values_of (swap_remove_entry test es)) + f v ≡ sum_by f (values_of es)
+  sum_gone test v es found = go (position test (keys_of es)) refl
+    where
+      go : (o : Option ℕ) → position test (keys_of es) ≡ o → sum_by f (values_of (swap_remove_entry test es)) + f v ≡ sum_by f (values_of es)
+      go None is = absurd (false≢true (sym (ap is_some is) ∙ some_index test es ∙ ap is_some found))
+      go (Some i) is =
+          let at = Found-position test es i is in
+          let there = place_from_lookup test es v found in
+          let d : K × X = (there.1, v) in
+          let same : (get_or es i d).1 ≡ v = same_Some (get_or es i d).1 v (sym (slice_get-map (λ (e : K × X). e.1) es i ∙ ap (option_map (λ (e : K × X). e.1)) (slice_get-get_or es i d at.within)) ∙ sym at.value ∙ found) in
+          let less = sum_by-swap_remove (λ (e : K × X). f e.1) es i d at.within in
+          let now = ap (λ l. sum_by f (values_of l)) (swap_remove_entry-found test es i d is) ∙ sum_values (swap_remove es i d) in
+          let old = sum_values es in
+          let one = ap f same in
+          omega (arith, less, now, old, one)
+
+  -- a part of no sum is none
+  pub sum_part : (test : K → Bool) (v : X) (es : List (K × X)) → lookup test es ≡ Some v → sum_by f (values_of es) ≡ 0 → f v ≡ 0
+  sum_part test v [] found none = absurd (none-some v found)
+  sum_part test v (e ∷ es) found none = go (test e.0) found (λ rest zero. sum_part test v es rest zero)
+    where
+      whole : f e.1 + sum_by f (values_of es) ≡ 0
+      whole = sym (sum_by-cons f e.1 (values_of es)) ∙ none
+
+      go : (b : Bool) → cond b (Some e.1) (lookup test es) ≡ Some v → (lookup test es ≡ Some v → sum_by f (values_of es) ≡ 0 → f v ≡ 0) → f v ≡ 0
+      go true is more = let one = ap f (same_Some e.1 v is) in omega (arith, whole, one)
+      go false is more = more is (omega (arith, whole))
+
+  -- and where no part is anything, nor is the sum
+  pub sum_none : {eq : K → K → Bool} → IsEquivalence eq → (es : List (K × X)) → IsDistinct eq (keys_of es) → ((q : K) (v : X) → lookup (eq q) es ≡ Some v → f v ≡ 0) → sum_by f (values_of es) ≡ 0
+  sum_none {eq} laws es distinct none =
+      let few = sum_by-le f 0 (values_of es) (All-values_from_lookup laws (λ v. f v ≤ 0) es distinct (λ q. part q (lookup (eq q) es) refl)) in
+      omega (arith, few)
+    where
+      part : (q : K) (o : Option X) → lookup (eq q) es ≡ o → IfSome o (λ v. f v ≤ 0)
+      part q None is = tt
+      part q (Some v) is = let zero = none q v is in omega (arith, zero)
+
+  -- a part is at most the sum
+  pub sum_least : (test : K → Bool) (v : X) (es : List (K × X)) → lookup test es ≡ Some v → f v ≤ sum_by f (values_of es)
+  sum_least test v [] found = absurd (none-some v found)
+  sum_least test v (e ∷ es) found = go (test e.0) found (λ rest. sum_least test v es rest)
+    where
+      whole : sum_by f (values_of (e ∷ es)) ≡ f e.1 + sum_by f (values_of es)
+      whole = sum_by-cons f e.1 (values_of es)
+
+      go : (b : Bool) → cond b (Some e.1) (lookup test es) ≡ Some v → (lookup test es ≡ Some v → f v ≤ sum_by f (values_of es)) → f v ≤ sum_by f (values_of (e ∷ es))
+      go true is more = let one = ap f (same_Some e.1 v is) in omega (arith, whole, one)
+      go false is more = let rest = more is in omega (arith, whole, rest)

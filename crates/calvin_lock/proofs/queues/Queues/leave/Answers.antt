@@ -1,0 +1,43 @@
+use Rattle.std.proofs.Common.{◌+◌, take, cond, List, sym, ap, ◌∙◌, arith}
+use Rattle.calvin_types.specs.declared.key.Key.{Key}
+use Rattle.calvin_lock.specs.declared.queue.Ask.{Ask}
+use Rattle.calvin_lock.specs.Queues.{asked}
+use Rattle.calvin_lock.proofs.AskedKeys.{asked_passed, asked_all, asked_whole}
+use Rattle.calvin_lock.proofs.QueueMaps.{same_asks, next_leaves}
+use Rattle.calvin_lock.proofs.Waits.{waits_alike}
+use Rattle.calvin_lock.proofs.queues.Queues.leave.Goals as goal
+
+pub loop-i-preserved-then-has : goal.loop-i-preserved-then-has
+loop-i-preserved-then-has c =
+    let same = asked_passed c.args.keys.now c.args.except.now c.loop-i.i c.at-key.result c.at-key.ensures (sym c.has.ensures ∙ c.if-has.true) in
+    record {
+      kept = c.loop-i.invariant.kept;
+      fits = c.loop-i.invariant.fits;
+      sets = c.loop-i.invariant.sets;
+      queues = λ before after queues leaves. same_asks _ _ c.loop-i.self.queues.entries (λ k. ap (λ b. cond b (after k) (before k)) (sym (same k))) (c.loop-i.invariant.queues before after queues leaves);
+      waits = c.loop-i.invariant.waits;
+    }
+
+pub loop-i-preserved : goal.loop-i-preserved
+loop-i-preserved c =
+    let keys = c.args.keys.now in
+    let except = c.args.except.now in
+    let i = c.loop-i.i in
+    let key = c.at-key.result in
+    let free = sym c.has.ensures ∙ c.if-has.false in
+    let there = asked_whole keys except i key c.at-key.ensures free in
+    let mid : (Key → List Ask) → (Key → List Ask) → Key → List Ask = λ before after k. cond (asked (take i keys) except k) (after k) (before k) in
+    let next : (Key → List Ask) → (Key → List Ask) → Key → List Ask = λ before after k. cond (asked (take (i + 1) keys) except k) (after k) (before k) in
+    record {
+      kept = c.pass_on.ensures.kept;
+      fits = c.drop_empty.ensures.fits c.pass_on.ensures.fits;
+      sets = λ q. c.pass_on.ensures.sets q ∙ c.loop-i.invariant.sets q;
+      queues = λ before after queues leaves. c.drop_empty.ensures.kept (next before after)
+          (c.pass_on.ensures.queues (mid before after) (next before after) (c.loop-i.invariant.queues before after queues leaves) (next_leaves keys except i key c.at-key.ensures c.len-i-end.ensures.rising free before after (leaves key there)));
+      waits = λ before after queues leaves waits. waits_alike _ _ c.pass_on.new.unreleased.places.entries
+          (λ q. sym (c.drop_empty.ensures.waits (next before after) (c.pass_on.ensures.queues (mid before after) (next before after) (c.loop-i.invariant.queues before after queues leaves) (next_leaves keys except i key c.at-key.ensures c.len-i-end.ensures.rising free before after (leaves key there))) q))
+          (c.pass_on.ensures.waits (c.loop-i.invariant.waits before after queues leaves waits));
+    }
+
+pub returns-clause-queues : goal.returns-clause-queues
+returns-clause-queues c = λ before after queues leaves. same_asks _ _ c.loop-i.self.queues.entries (λ k. ap (λ b. cond b (after k) (before k)) (asked_all c.args.keys.now c.args.except.now c.loop-i.i (omega (arith, c.loop-i-test.false, c.len-i-end.ensures.len)) k)) (c.loop-i.invariant.queues before after queues leaves)

@@ -1,0 +1,68 @@
+//! Keys that are passed on by a place that is released.
+ghost use Rattle.std.specs.Prelude.{◌≡◌, ◌+◌, List, true, cond, ℕ};
+ghost use Rattle.std.specs.Option.{option_map};
+ghost use Rattle.calvin_types.specs.declared.key.Key.{Key};
+ghost use Rattle.calvin_types.specs.declared.place.Place.{Place};
+ghost use Rattle.calvin_lock.specs.declared.queue.Ask.{Ask};
+ghost use Rattle.calvin_lock.specs.Queues.{Fits, IsQueueOf, IsSettled, waits_in, waits_of, asked, AreQueues, AllFit, Leaves, LeavesAt};
+ghost use Rattle.calvin_lock.specs.Unreleased.{IsUnreleased, WaitsFor, pending_at};
+
+use crate::queue::Queue;
+use crate::queues::Queues;
+use crate::unreleased::Unreleased;
+use calvin_types::{Key, KeySet};
+
+/// Lets those who wait first hold the key of a queue, as far as they may.
+fn settle(queue: &mut Queue, unreleased: &mut Unreleased)
+    requires kept { IsUnreleased unreleased.old }
+    requires fits { Fits queue.old }
+    ensures kept { IsUnreleased unreleased.new }
+    ensures fits { Fits queue.new }
+    ensures queue { (asks : List Ask) → IsQueueOf asks queue.old.holders queue.old.waiting.items → IsQueueOf asks queue.new.holders queue.new.waiting.items }
+    ensures settled { IsSettled queue.new.holders queue.new.waiting.items }
+    ensures sets { (q : Place) → option_map (λ p. p.sets) (pending_at unreleased.new.places.entries q) ≡ option_map (λ p. p.sets) (pending_at unreleased.old.places.entries q) }
+    ensures waits { (more : Place → ℕ) → WaitsFor (λ q. more q + waits_in q queue.old.waiting.items) unreleased.old.places.entries → WaitsFor (λ q. more q + waits_in q queue.new.waiting.items) unreleased.new.places.entries }
+{
+    while let Some(place) = queue.grant_next() {
+        unreleased.grant(place);
+    }
+}
+
+impl Queues {
+    /// One that holds a key leaves its queue, and those who wait first hold it, as far as they may.
+    fn pass_on(&mut self, unreleased: &mut Unreleased, key: Key)
+        requires kept { IsUnreleased unreleased.old }
+        requires fits { AllFit self.old.queues.entries }
+        ensures kept { IsUnreleased unreleased.new }
+        ensures fits { AllFit self.new.queues.entries }
+        ensures sets { (q : Place) → option_map (λ p. p.sets) (pending_at unreleased.new.places.entries q) ≡ option_map (λ p. p.sets) (pending_at unreleased.old.places.entries q) }
+        ensures queues { (before after : Key → List Ask) → AreQueues before self.old.queues.entries → LeavesAt key before after → AreQueues after self.new.queues.entries }
+        ensures waits { WaitsFor (λ q. waits_of q self.old.queues.entries) unreleased.old.places.entries → WaitsFor (λ q. waits_of q self.new.queues.entries) unreleased.new.places.entries }
+    {
+        if let Some(queue) = self.queues.get_mut(&key) {
+            queue.leave();
+            settle(queue, unreleased);
+        }
+    }
+
+    /// A place that holds some keys but for others leaves their queues, and those who wait first hold them, as far as they
+    /// may.
+    pub(crate) fn leave(&mut self, unreleased: &mut Unreleased, keys: &KeySet, except: &KeySet)
+        requires kept { IsUnreleased unreleased.old }
+        requires fits { AllFit self.old.queues.entries }
+        ensures kept { IsUnreleased unreleased.new }
+        ensures fits { AllFit self.new.queues.entries }
+        ensures sets { (q : Place) → option_map (λ p. p.sets) (pending_at unreleased.new.places.entries q) ≡ option_map (λ p. p.sets) (pending_at unreleased.old.places.entries q) }
+        ensures queues { (before after : Key → List Ask) → AreQueues before self.old.queues.entries → ((k : Key) → asked keys.now except.now k ≡ true → Leaves (before k) (after k)) → AreQueues (λ k. cond (asked keys.now except.now k) (after k) (before k)) self.new.queues.entries }
+        ensures waits { (before after : Key → List Ask) → AreQueues before self.old.queues.entries → ((k : Key) → asked keys.now except.now k ≡ true → Leaves (before k) (after k)) → WaitsFor (λ q. waits_of q self.old.queues.entries) unreleased.old.places.entries → WaitsFor (λ q. waits_of q self.new.queues.entries) unreleased.new.places.entries }
+    {
+        for i in 0..keys.len() {
+            let key = keys.at(i);
+            if except.has(key) {
+                continue;
+            }
+            self.pass_on(unreleased, key);
+            self.drop_empty(key);
+        }
+    }
+}

@@ -1,0 +1,130 @@
+//! Locks as a queue for each key.
+ghost use Rattle.std.specs.Prelude.{◌≡◌, List, [], true, OnOk, IsOkUnless};
+ghost use Rattle.calvin_types.specs.declared.key.Key.{Key};
+ghost use Rattle.calvin_types.specs.declared.place.Place.{Place};
+ghost use Rattle.calvin_lock.specs.declared.queue.Kind.{Kind};
+ghost use Rattle.calvin_lock.specs.declared.queue.Ask.{Ask};
+ghost use Rattle.calvin_lock.specs.Queues.{asked, waits_of, AreQueues, HasRoomAt};
+ghost use Rattle.calvin_lock.specs.Unreleased.{IsUnreleased, HasPlace};
+
+use crate::list_locks::is_past;
+use crate::locks::Locks;
+use crate::queue::Kind;
+use crate::queues::Queues;
+use crate::unreleased::{Pending, Unreleased};
+use calvin_types::{Fault, KeySet, Place, Sets};
+use std::alloc::Global;
+use std::marker::Model;
+
+/// Locks as a queue for each key that an unreleased place asks for, and for each unreleased place the number of its keys
+/// that it waits for. A request and a release take expected time in proportion to the place's keys and to the keys that
+/// others come to hold by it; where a place becomes ready, or is no longer, the ready ones on one side of it move up, and
+/// it is found among them in logarithmic time. `is_ready` takes constant expected time, and `first_ready` logarithmic time.
+/// The hash has a fixed seed: keys that were chosen to collide make it slow and never wrong.
+#[derive(Drop)]
+pub struct QueueLocks {
+    queues: Queues,
+    unreleased: Unreleased,
+    last: Option<Place>,
+}
+
+impl Model for QueueLocks {
+    ghost use Rattle.std.specs.FinMap.{from_entries};
+    ghost use Rattle.calvin_lock.specs.Locking.{Locking};
+    ghost use Rattle.calvin_lock.specs.LocksCode.{coded_locking};
+    ghost use Rattle.calvin_lock.specs.Queued.{requests_of, IsQueued};
+
+    ghost Value = { Locking };
+
+    ghost coded = { coded_locking };
+
+    ghost view = { λ l. record { requested = from_entries (requests_of l.unreleased.places.entries); last = l.last } };
+
+    ghost invariant = { λ l. IsQueued l.queues.queues.entries l.unreleased l.last };
+}
+
+/// Makes room for a place with these keys in each of its queues, and among the unreleased places.
+fn reserve(
+    queues: &mut Queues,
+    unreleased: &mut Unreleased,
+    reads: &KeySet,
+    writes: &KeySet,
+) -> Result<(), Fault>
+    requires { IsUnreleased unreleased.old }
+    ensures kept { IsUnreleased unreleased.new }
+    ensures places { unreleased.new.places.entries ≡ unreleased.old.places.entries }
+    ensures ready { unreleased.new.ready.items ≡ unreleased.old.ready.items }
+    ensures queues { (asks : Key → List Ask) → AreQueues asks queues.old.queues.entries → AreQueues asks queues.new.queues.entries }
+    ensures waits { (q : Place) → waits_of q queues.new.queues.entries ≡ waits_of q queues.old.queues.entries }
+    ensures place { OnOk result (HasPlace unreleased.new) }
+    ensures writes { OnOk result ((k : Key) → asked writes.now [] k ≡ true → HasRoomAt queues.new.queues.entries k Kind.Exclusive) }
+    ensures reads { OnOk result ((k : Key) → asked reads.now writes.now k ≡ true → HasRoomAt queues.new.queues.entries k Kind.Shared) }
+    ensures only { IsOkUnless result Fault.OutOfMemory }
+{
+    unreleased.reserve()?;
+    queues.reserve(writes, &KeySet::new(), Kind::Exclusive)?;
+    queues.reserve(reads, writes, Kind::Shared)
+}
+
+impl Locks for QueueLocks {
+    ghost kept = { λ l. l };
+
+    fn empty(alloc: Global) -> QueueLocks {
+        QueueLocks {
+            queues: Queues::new(alloc),
+            unreleased: Unreleased::new(alloc),
+            last: None,
+        }
+    }
+
+    fn request(&mut self, place: Place, reads: &KeySet, writes: &KeySet) -> Result<(), Fault> {
+        if !is_past(self.last, place) {
+            return Err(Fault::LocksOutOfOrder);
+        }
+        if reads.is_empty() && writes.is_empty() {
+            return Err(Fault::NoKeys);
+        }
+        if let Err(fault) = reserve(&mut self.queues, &mut self.unreleased, reads, writes) {
+            self.queues.drop_all_empty(writes);
+            self.queues.drop_all_empty(reads);
+            return Err(fault);
+        }
+        let exclusive = self
+            .queues
+            .join(place, writes, &KeySet::new(), Kind::Exclusive);
+        let shared = self.queues.join(place, reads, writes, Kind::Shared);
+        let sets = Sets {
+            reads: *reads,
+            writes: *writes,
+        };
+        let waits = exclusive + shared;
+        self.unreleased.add(place, Pending { sets, waits });
+        self.last = Some(place);
+        Ok(())
+    }
+
+    fn is_ready(&self, place: Place) -> bool {
+        self.unreleased.is_ready(place)
+    }
+
+    fn release(&mut self, place: Place) -> Result<(), Fault> {
+        match self.unreleased.take(place) {
+            Some(sets) => {
+                self.queues
+                    .leave(&mut self.unreleased, &sets.writes, &KeySet::new());
+                self.queues
+                    .leave(&mut self.unreleased, &sets.reads, &sets.writes);
+                Ok(())
+            }
+            None => Err(Fault::NotHeld),
+        }
+    }
+
+    fn first_ready(&self, after: Option<Place>) -> Option<Place> {
+        self.unreleased.first_ready(after)
+    }
+
+    fn up_to_last(&self) {
+        let _last = self.last;
+    }
+}

@@ -1,0 +1,42 @@
+-- What nodes send each other and clients (Thomson et al. 2012, section 3.1: batches; section 3.3: rows that are read;
+-- section 4: rows that are to be in memory. "Paxos Made Simple", section 2: the synod's messages).
+use Rattle.std.specs.Prelude.{ℕ, not, ◌==◌, List, [], ◌∷◌, map}
+use Rattle.std.specs.List.{filter, range_with_len}
+use Rattle.calvin_types.specs.declared.key_set.Sets.{Sets}
+use Rattle.calvin_types.specs.declared.place.NodeId.{NodeId}
+use Rattle.calvin_types.specs.declared.txn.Txn.{Txn}
+use Rattle.calvin_types.specs.Participants.{Site, site, local_keys, has_local_key}
+use Rattle.calvin_synod.specs.Cases.{Letters, Silent, ToOne, ToAll}
+use Rattle.calvin_order.specs.Merged.{Batch}
+use Rattle.calvin_node.specs.declared.packet.Address.TheVariants.{AtNode}
+use Rattle.calvin_node.specs.declared.packet.Content.{Content}
+use Rattle.calvin_node.specs.declared.packet.Content.TheVariants.{Synod, Warm}
+use Rattle.calvin_node.specs.declared.packet.Packet.{Packet}
+
+-- the other partitions, ascending
+abbrev pub others : ℕ → ℕ → List ℕ
+others parts p = filter (λ q. not (q == p)) (range_with_len 0 parts)
+
+module _ {Args : Type 0} where
+  -- the partitions that store a declared key
+  abbrev pub participants : ℕ → Txn Args → List ℕ
+  participants parts t = filter (λ p. has_local_key (site parts p) t) (range_with_len 0 parts)
+
+  -- the declared keys that are stored at a site
+  abbrev pub local_sets : Site → Txn Args → Sets
+  local_sets here t = record { reads = local_keys here t.sets.reads; writes = local_keys here t.sets.writes }
+
+module _ {Args Row Reply : Type 0} where
+  -- each of these partitions of the own replica is to have the rows of its declared keys in memory
+  abbrev pub warm_packets : ℕ → NodeId → Txn Args → List ℕ → List (Packet Args Row Reply)
+  warm_packets parts me t ps = map (λ p. record { from = me; to = AtNode (record { replica = me.replica; partition = p }); content = Warm (local_sets (site parts p) t) }) ps
+
+  -- the same to each of these partitions of a replica
+  abbrev pub to_each : NodeId → ℕ → Content Args Row Reply → List ℕ → List (Packet Args Row Reply)
+  to_each me replica content ps = map (λ p. record { from = me; to = AtNode (record { replica = replica; partition = p }); content = content }) ps
+
+  -- what a synod sends: to one or all replicas of its own group, ascending
+  abbrev pub synod_packets : ℕ → NodeId → Letters (Batch Args) → List (Packet Args Row Reply)
+  synod_packets size me Silent = []
+  synod_packets size me (ToOne r m) = record { from = me; to = AtNode (record { replica = r; partition = me.partition }); content = Synod m } ∷ []
+  synod_packets size me (ToAll m) = map (λ r. record { from = me; to = AtNode (record { replica = r; partition = me.partition }); content = Synod m }) (range_with_len 0 size)

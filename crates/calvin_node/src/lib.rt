@@ -1,0 +1,11 @@
+//! A node: partition p of replica r, with its sequencer, its synods, the batches that it holds and its scheduler. What it says
+//! and what happens to it are types here; what it makes of each event and each packet stands in definitions, without code yet.
+#![tactic(auto)]
+
+mod act;
+mod law;
+mod packet;
+
+pub use act::Act;
+pub use law::refuses;
+pub use packet::{Address, Content, Packet};

@@ -1,0 +1,9 @@
+//! One partition's scheduler, in definitions: requests are admitted in the global order, lock what they use, read, exchange
+//! what they read, run and write (Thomson et al. 2012, sections 3.2 and 3.3).
+#![tactic(auto)]
+
+mod law;
+mod phase;
+
+pub use law::ready_is;
+pub use phase::Phase;

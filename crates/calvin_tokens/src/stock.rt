@@ -1,0 +1,94 @@
+//! The operations of the application Stock.
+ghost use Rattle.std.specs.Prelude.{◌≤◌, length, IfSome};
+ghost use Rattle.calvin_script.specs.StockOperations.{line, lines, order};
+ghost use Rattle.calvin_tokens.specs.Spelled.{Spells, SpellsBehind};
+
+use crate::numbers::{one_number, three_numbers, two_numbers};
+use crate::operation::OperationTokens;
+use crate::tokens::{closes_array, ends_array, is_same, opens_array, string_at, u32_of, u64_of};
+use calvin_script::order_of_lines;
+use calvin_stock::{Line, MOST_LINES, Order, StockRequest};
+use calvin_types::{Few, RequestId};
+use json::Reader;
+
+/// A line of an order: an item, and how many pieces of it.
+#[tactic(auto, using(crate::proofs::OrderTurns::line_spelled))]
+fn line_at(reader: &mut Reader<'_>) -> Option<Line>
+    ensures { IfSome result (λ l. Spells line 1 reader.old l reader.new) }
+{
+    opens_array(reader)?;
+    let item = u64_of(reader)?;
+    let pieces = u32_of(reader)?;
+    closes_array(reader)?;
+    Some(Line { item, pieces })
+}
+
+/// The lines that the next tokens list, at most four.
+fn lines_at(reader: &mut Reader<'_>) -> Option<Few<Line>>
+    ensures lines { IfSome result (λ ls. Spells lines 2 reader.old ls reader.new) }
+    ensures at_most { IfSome result (λ ls. length ls ≤ MOST_LINES) }
+{
+    opens_array(reader)?;
+    let mut found = Few::new();
+    'lines: while !ends_array(reader) {
+        if found.len() == MOST_LINES {
+            return None;
+        }
+        let line = line_at(reader)?;
+        found.push(line);
+    }
+    Some(found)
+}
+
+/// The order that the items behind the name of an operation spell.
+#[tactic(auto, using(crate::proofs::OrderTurns::order_spelled))]
+fn order_at(reader: &mut Reader<'_>) -> Option<Order>
+    ensures { IfSome result (λ o. SpellsBehind order 2 reader.old o reader.new) }
+{
+    let customer = u64_of(reader)?;
+    let number = u64_of(reader)?;
+    let lines = lines_at(reader)?;
+    closes_array(reader)?;
+    let order = order_of_lines(customer, number, &lines)?;
+    Some(order)
+}
+
+impl OperationTokens for StockRequest {
+    fn read_tokens(&mut self, reader: &mut Reader<'_>) -> Option<()> {
+        opens_array(reader)?;
+        let name = string_at(reader)?;
+        if is_same(name, "additem") {
+            let (item, pieces, price) = three_numbers(reader)?;
+            *self = StockRequest::AddItem {
+                item,
+                pieces,
+                price,
+            };
+        } else if is_same(name, "restock") {
+            let (item, pieces) = two_numbers(reader)?;
+            *self = StockRequest::Restock { item, pieces };
+        } else if is_same(name, "open") {
+            let customer = one_number(reader)?;
+            *self = StockRequest::Open { customer };
+        } else if is_same(name, "payin") {
+            let (customer, cents) = two_numbers(reader)?;
+            *self = StockRequest::PayIn { customer, cents };
+        } else if is_same(name, "order") {
+            let order = order_at(reader)?;
+            *self = StockRequest::Order(order);
+        } else if is_same(name, "settle") {
+            let customer = one_number(reader)?;
+            *self = StockRequest::Settle { customer };
+        } else if is_same(name, "balance") {
+            let customer = one_number(reader)?;
+            *self = StockRequest::Balance { customer };
+        } else {
+            return None;
+        }
+        Some(())
+    }
+
+    fn give_name(&mut self, _id: RequestId) -> Option<()> {
+        Some(())
+    }
+}
