@@ -33,7 +33,7 @@ module _ {Args : Type 0} where
   abbrev pub new_synod : Replica (Batch Args)
   new_synod = record { acceptor = empty; proposer = record { used = 0; seen = 0; attempts = empty }; learner = record { counted = empty; given = empty } }
 
-  is_new : fresh {B = Batch Args} ≡ new_synod
+  pub is_new : fresh {B = Batch Args} ≡ new_synod
   unfolding fresh
   is_new = refl
 

@@ -18,6 +18,7 @@ pub mod OneSlot
 pub mod OneRequest
 pub mod OneRun
 pub mod SynodCases
+pub mod TwoBallots
 pub mod RowCases
 pub mod TwoEpochs
 pub mod ColdCase

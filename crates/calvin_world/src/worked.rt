@@ -1,11 +1,12 @@
-//! Worked cases: lists of events from the opening of one node, with the outcome of each.
-ghost use Rattle.std.specs.Prelude.{ℕ, false};
+//! Worked cases: lists of events from the opening, with the outcome of each.
+ghost use Rattle.std.specs.Prelude.{◌≡◌, ℕ, ◌++◌, false};
 ghost use Rattle.calvin_app.specs.Meaning.{Meaning};
 ghost use Rattle.calvin_app.specs.Kv.{kv};
 ghost use Rattle.calvin_app.specs.declared.kv.KvRequest.{KvRequest};
 ghost use Rattle.calvin_app.specs.declared.kv.KvReply.{KvReply};
 ghost use Rattle.calvin_world.specs.Worlds.{WorldState, opening, Leads};
-ghost use Rattle.calvin_world.specs.WorkedCases.{alone, alone_with, no_start, refusals, one_run, one_done, RanOne, restarting, after_restart, RanRestart, marked_run, marked_done, RanMarked, over_a_point, point_refusals, outbid, outbid_done, RanOutbid, empty_run, empty_done, RanEmpty, reply_delivered, reply_refused, kept_run, kept_done, RanKept, plain_run, plain_done, cold_run, cold_done, RanCold, marked_in_time, marked_in_time_done, RanInTime, unmarked, unmarked_done};
+ghost use Rattle.calvin_world.specs.WorkedCases.{alone, alone_with, no_start, refusals, one_run, one_done, RanOne, done_times, restarting, after_restart, RanRestart, marked_run, marked_done, RanMarked, over_a_point, point_refusals, outbid, outbid_done, RanOutbid, empty_run, empty_done, RanEmpty, reply_delivered, reply_refused, kept_run, kept_done, RanKept, plain_run, plain_done, cold_run, cold_done, RanCold, marked_in_time, marked_in_time_done, RanInTime, unmarked, unmarked_done};
+ghost use Rattle.calvin_world.specs.WorkedBallots.{three, first_ballot, sent_first, second_ballot, sent_second, late_accept, late_refused, with_refusal};
 
 /// A new node refuses what it has no ground for, and is as it was.
 pub fn refused_events<Args, Row, Reply>()
@@ -35,7 +36,7 @@ pub fn refused_over_a_point()
 
 /// A proposal that was made before another one comes late: its prepare is refused with the promise, and the refusal tells
 /// the proposer nothing new.
-pub fn old_ballot_refused()
+pub fn old_prepare_refused()
     ensures { (w : WorldState KvRequest ℕ KvReply) × Leads kv (opening alone) outbid outbid_done w × RanOutbid w }
 {}
 
@@ -74,4 +75,16 @@ pub fn mark_then_snapshot()
 /// Without a point a snapshot of an epoch is refused once something later is done, and so is a point.
 pub fn snapshot_without_mark()
     ensures { (w : WorldState KvRequest ℕ KvReply) × Leads kv (opening alone) unmarked unmarked_done w }
+{}
+
+/// Three replicas. Replica 0 has voted for its request in its first ballot; replica 1 proposes another request for the same slot,
+/// is told of the vote with the promise, and asks all to accept the first one's request, not its own.
+pub fn new_ballot_keeps_the_vote()
+    ensures { (w : WorldState KvRequest ℕ KvReply) × Leads kv (opening three) (first_ballot ++ second_ballot) (done_times 15) w × (w.packets ≡ sent_first ++ sent_second) }
+{}
+
+/// After that the accept of the first ballot comes to replica 1, which has promised the second: it is refused with the promise,
+/// and its record is unchanged. The refusal tells replica 0 of no greater round.
+pub fn old_ballot_refused()
+    ensures { (w : WorldState KvRequest ℕ KvReply) × Leads kv (opening three) (first_ballot ++ second_ballot) (done_times 15) w × Leads kv w late_accept late_refused (with_refusal w) }
 {}
