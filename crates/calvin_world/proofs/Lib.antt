@@ -18,7 +18,10 @@ pub mod OneSlot
 pub mod OneRequest
 pub mod OneRun
 pub mod SynodCases
+pub mod KnownWorlds
 pub mod TwoBallots
+pub mod MoveOrder
+pub mod MoveRun
 pub mod RowCases
 pub mod TwoEpochs
 pub mod ColdCase

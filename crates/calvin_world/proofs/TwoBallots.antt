@@ -1,10 +1,8 @@
 -- Three replicas and two ballots for one slot, event by event: the second ballot keeps the vote that it is told of, and the first is refused.
-use Rattle.std.proofs.Common.{◌≡◌, ℕ, cond, List, [], ◌∷◌, ◌++◌, inl, Option, Some, None, refl, sym, ap, ◌∙◌, subst}
-use Rattle.std.specs.Prelude.{is_some, slice_set}
+use Rattle.std.proofs.Common.{◌≡◌, ℕ, cond, List, [], ◌∷◌, ◌++◌, inl, Option, Some, None, refl, sym, ap, subst}
+use Rattle.std.specs.Prelude.{is_some}
 use Rattle.std.specs.FinMap.{get, insert, empty, get-empty}
-use Rattle.calvin_types.specs.declared.fault.Fault.{Fault}
 use Rattle.calvin_types.specs.declared.fault.Fault.TheVariants as fault
-use Rattle.calvin_types.specs.declared.place.Ballot.{Ballot}
 use Rattle.calvin_types.specs.declared.place.NodeId.{NodeId}
 use Rattle.calvin_types.specs.declared.place.Slot.{Slot}
 use Rattle.calvin_types.specs.Deeds.{Refuses, Does}
@@ -19,54 +17,26 @@ use Rattle.calvin_synod.specs.declared.vote.Vote.{Vote}
 use Rattle.calvin_synod.specs.declared.vote.Recorded.{Recorded}
 use Rattle.calvin_synod.specs.declared.attempt.Attempt.{Attempt}
 use Rattle.calvin_synod.specs.declared.message.Message.TheVariants as message
-use Rattle.calvin_synod.specs.Roles.{promise_in, vote_in, bars_prepare, bars_accept, if_counts, started, counting, sending, voted}
+use Rattle.calvin_synod.specs.Roles.{counting, sending, voted}
 use Rattle.calvin_order.specs.Merged.{Batch}
 use Rattle.calvin_order.specs.Sequencing.{Sequencing}
 use Rattle.calvin_node.specs.declared.act.Act.TheVariants.{Submit, Close, Propose}
 use Rattle.calvin_node.specs.Acting as node
-use Rattle.calvin_node.specs.Handling.{NodeDeed, handle, by_synod}
+use Rattle.calvin_node.specs.Handling.{handle, by_synod}
 use Rattle.calvin_node.specs.NodeStates.{new_node}
 use Rattle.calvin_world.specs.declared.event.Event.TheVariants.{At, Deliver}
-use Rattle.calvin_world.specs.declared.event.Outcome.{Outcome}
 use Rattle.calvin_world.specs.declared.event.Outcome.TheVariants.{Done, Refused}
 use Rattle.calvin_world.specs.WorkedCases.{first_slot, put, done_times}
 use Rattle.calvin_world.specs.WorkedBallots.{three, replica_id, ballot_of, rival, letter, letters_to_all, first_ballot, sent_first, second_ballot, sent_second, late_accept, late_refused, with_refusal}
-use Rattle.calvin_world.specs.Worlds.{WorldState, carry_out, Step, Leads, opening, index_of}
+use Rattle.calvin_world.specs.Worlds.{Step, Leads, opening}
 use Rattle.calvin_world.proofs.Alone.{new_synod, first_node, is_new, joined}
-use Rattle.calvin_world.proofs.OneSlot.{Node, Sent, KvDeed}
-
-abbrev World : Type 0
-World = WorldState KvRequest ℕ KvReply
-
--- ---- what a synod makes of a message, by what it has of the slot
-
-module _ {B : Type 0} (x : Replica B) (slot : Slot) (ballot : Ballot) (from : ℕ) where
-  prepares : (r : Option (Recorded B)) → get x.acceptor slot ≡ r → bars_prepare (promise_in r) ballot ≡ None
-      → synod.handle 3 from (message.Prepare slot ballot) x ≡ synod.Does (record x { acceptor = insert x.acceptor slot (record { promise = ballot; vote = vote_in r }) }) (synod.ToOne from (message.Promise slot ballot (vote_in r))) None
-  prepares r here unbarred =
-      ap (λ o. synod.prepare from x slot ballot (bars_prepare (promise_in o) ballot)) here
-      ∙ ap (synod.prepare from x slot ballot) unbarred
-      ∙ ap (λ v. synod.Does (record x { acceptor = insert x.acceptor slot (record { promise = ballot; vote = v }) }) (synod.ToOne from (message.Promise slot ballot v)) None) (ap vote_in here)
-
-  promises : (vote : Option (Vote B)) (t : Attempt B) → get x.proposer.attempts slot ≡ Some t → synod.handle 3 from (message.Promise slot ballot vote) x ≡ synod.promise 3 from x slot ballot vote (if_counts (Some t) from ballot)
-  promises vote t here = ap (λ a. synod.promise 3 from x slot ballot vote (if_counts a from ballot)) here
-
-  accepts : (batch : B) (r : Recorded B) → get x.acceptor slot ≡ Some r → synod.handle 3 from (message.Accept slot ballot batch) x ≡ synod.accept from x slot ballot batch (bars_accept (Some r.promise) ballot)
-  accepts batch r here = ap (λ a. synod.accept from x slot ballot batch (bars_accept (promise_in a) ballot)) here
+use Rattle.calvin_world.proofs.OneSlot.{Node, Sent}
+use Rattle.calvin_world.proofs.KnownWorlds.{World, after, ends, prepares, promises, accepts}
 
 -- a batch that was closed is proposed, where its slot isn't held
 proposes : (me : NodeId) (x : Node) (batch : Batch KvRequest) → get x.held first_slot ≡ None
     → cond (is_some (get x.held first_slot)) (Refuses fault.Decided) (by_synod {Reply = KvReply} three x (synod.propose me.replica first_slot batch x.synod)) ≡ by_synod three x (synod.propose me.replica first_slot batch x.synod)
 proposes me x batch unheld = ap (λ (o : Option (Batch KvRequest)). cond (is_some o) (Refuses fault.Decided) (by_synod {Reply = KvReply} three x (synod.propose me.replica first_slot batch x.synod))) unheld
-
--- ---- one event of a world
-
-abbrev after : World → NodeId → KvDeed → World
-after w me deed = (carry_out w me deed).1
-
--- it ends as the deed of its node
-ends : (w : World) (me : NodeId) (deed known : KvDeed) → deed ≡ known → ((carry_out w me known).0, (carry_out w me known).1) ≡ carry_out w me deed
-ends w me deed known e = sym (ap (carry_out w me) e)
 
 -- ---- the replicas, after each of their events
 
@@ -215,19 +185,19 @@ event_3 : Step kv w_2 (At (replica_id 0) (Propose 0)) Done w_3
 event_3 = inl (ends w_2 (replica_id 0) (node.propose three 0 (first new_synod)) (Does (first s_1) (letters_to_all 0 (message.Prepare slot (ballot_of 0)))) (proposes (replica_id 0) (first new_synod) mine unheld))
 
 event_4 : Step kv w_3 (Deliver 0) Done w_4
-event_4 = inl (ends w_3 (replica_id 0) (handle three (letter 0 0 (message.Prepare slot (ballot_of 0))) (first s_1)) (Does (first s_2) (letter 0 0 (message.Promise slot (ballot_of 0) None) ∷ [])) (ap (by_synod {Reply = KvReply} three (first s_1)) (prepares s_1 slot (ballot_of 0) 0 None unrecorded refl)))
+event_4 = inl (ends w_3 (replica_id 0) (handle three (letter 0 0 (message.Prepare slot (ballot_of 0))) (first s_1)) (Does (first s_2) (letter 0 0 (message.Promise slot (ballot_of 0) None) ∷ [])) (ap (by_synod {Reply = KvReply} three (first s_1)) (prepares 3 s_1 slot (ballot_of 0) 0 None unrecorded refl)))
 
 event_5 : Step kv w_4 (Deliver 1) Done w_5
-event_5 = inl (ends w_4 (replica_id 1) (handle three (letter 0 1 (message.Prepare slot (ballot_of 0))) (at_first 1)) (Does promising (letter 1 0 (message.Promise slot (ballot_of 0) None) ∷ [])) (ap (by_synod {Reply = KvReply} three (at_first 1)) (prepares new_synod slot (ballot_of 0) 0 None unrecorded refl)))
+event_5 = inl (ends w_4 (replica_id 1) (handle three (letter 0 1 (message.Prepare slot (ballot_of 0))) (at_first 1)) (Does promising (letter 1 0 (message.Promise slot (ballot_of 0) None) ∷ [])) (ap (by_synod {Reply = KvReply} three (at_first 1)) (prepares 3 new_synod slot (ballot_of 0) 0 None unrecorded refl)))
 
 event_6 : Step kv w_5 (Deliver 3) Done w_6
-event_6 = inl (ends w_5 (replica_id 0) (handle three (letter 0 0 (message.Promise slot (ballot_of 0) None)) (first s_2)) (Does (first s_3) []) (ap (by_synod {Reply = KvReply} three (first s_2)) (promises s_2 slot (ballot_of 0) 0 None (attempt 0 mine) (get_here empty slot (attempt 0 mine)))))
+event_6 = inl (ends w_5 (replica_id 0) (handle three (letter 0 0 (message.Promise slot (ballot_of 0) None)) (first s_2)) (Does (first s_3) []) (ap (by_synod {Reply = KvReply} three (first s_2)) (promises 3 s_2 slot (ballot_of 0) 0 None (attempt 0 mine) (get_here empty slot (attempt 0 mine)))))
 
 event_7 : Step kv w_6 (Deliver 4) Done w_7
-event_7 = inl (ends w_6 (replica_id 0) (handle three (letter 1 0 (message.Promise slot (ballot_of 0) None)) (first s_3)) (Does (first s_4) (letters_to_all 0 (message.Accept slot (ballot_of 0) mine))) (ap (by_synod {Reply = KvReply} three (first s_3)) (promises s_3 slot (ballot_of 0) 1 None (counted_own 0 mine) (get_here s_2.proposer.attempts slot (counted_own 0 mine)))))
+event_7 = inl (ends w_6 (replica_id 0) (handle three (letter 1 0 (message.Promise slot (ballot_of 0) None)) (first s_3)) (Does (first s_4) (letters_to_all 0 (message.Accept slot (ballot_of 0) mine))) (ap (by_synod {Reply = KvReply} three (first s_3)) (promises 3 s_3 slot (ballot_of 0) 1 None (counted_own 0 mine) (get_here s_2.proposer.attempts slot (counted_own 0 mine)))))
 
 event_8 : Step kv w_7 (Deliver 5) Done w_8
-event_8 = inl (ends w_7 (replica_id 0) (handle three (letter 0 0 (message.Accept slot (ballot_of 0) mine)) (first s_4)) (Does (first s_5) (letters_to_all 0 (message.Accepted slot (ballot_of 0) mine))) (ap (by_synod {Reply = KvReply} three (first s_4)) (accepts s_4 slot (ballot_of 0) 0 mine (promised_to 0 None) (get_here s_1.acceptor slot (promised_to 0 None)))))
+event_8 = inl (ends w_7 (replica_id 0) (handle three (letter 0 0 (message.Accept slot (ballot_of 0) mine)) (first s_4)) (Does (first s_5) (letters_to_all 0 (message.Accepted slot (ballot_of 0) mine))) (ap (by_synod {Reply = KvReply} three (first s_4)) (accepts 3 s_4 slot (ballot_of 0) 0 mine (promised_to 0 None) (get_here s_1.acceptor slot (promised_to 0 None)))))
 
 first_leads : Leads kv w_0 first_ballot (done_times 8) w_8
 first_leads = (w_1, event_1, (w_2, event_2, (w_3, event_3, (w_4, event_4, (w_5, event_5, (w_6, event_6, (w_7, event_7, (w_8, event_8, refl))))))))
@@ -244,16 +214,16 @@ event_11 : Step kv w_10 (At (replica_id 1) (Propose 0)) Done w_11
 event_11 = inl (ends w_10 (replica_id 1) (node.propose three 0 (second t_1)) (Does (second t_2) (letters_to_all 1 (message.Prepare slot (ballot_of 1)))) (proposes (replica_id 1) (second t_1) theirs unheld))
 
 event_12 : Step kv w_11 (Deliver 11) Done w_12
-event_12 = inl (ends w_11 (replica_id 0) (handle three (letter 1 0 (message.Prepare slot (ballot_of 1))) (first s_5)) (Does (first s_6) (letter 0 1 (message.Promise slot (ballot_of 1) (Some vote)) ∷ [])) (ap (by_synod {Reply = KvReply} three (first s_5)) (prepares s_5 slot (ballot_of 1) 1 (Some (promised_to 0 (Some vote))) (get_here s_4.acceptor slot (promised_to 0 (Some vote))) refl)))
+event_12 = inl (ends w_11 (replica_id 0) (handle three (letter 1 0 (message.Prepare slot (ballot_of 1))) (first s_5)) (Does (first s_6) (letter 0 1 (message.Promise slot (ballot_of 1) (Some vote)) ∷ [])) (ap (by_synod {Reply = KvReply} three (first s_5)) (prepares 3 s_5 slot (ballot_of 1) 1 (Some (promised_to 0 (Some vote))) (get_here s_4.acceptor slot (promised_to 0 (Some vote))) refl)))
 
 event_13 : Step kv w_12 (Deliver 12) Done w_13
-event_13 = inl (ends w_12 (replica_id 1) (handle three (letter 1 1 (message.Prepare slot (ballot_of 1))) (second t_2)) (Does (second t_3) (letter 1 1 (message.Promise slot (ballot_of 1) None) ∷ [])) (ap (by_synod {Reply = KvReply} three (second t_2)) (prepares t_2 slot (ballot_of 1) 1 (Some (promised_to 0 None)) (get_here empty slot (promised_to 0 None)) refl)))
+event_13 = inl (ends w_12 (replica_id 1) (handle three (letter 1 1 (message.Prepare slot (ballot_of 1))) (second t_2)) (Does (second t_3) (letter 1 1 (message.Promise slot (ballot_of 1) None) ∷ [])) (ap (by_synod {Reply = KvReply} three (second t_2)) (prepares 3 t_2 slot (ballot_of 1) 1 (Some (promised_to 0 None)) (get_here empty slot (promised_to 0 None)) refl)))
 
 event_14 : Step kv w_13 (Deliver 15) Done w_14
-event_14 = inl (ends w_13 (replica_id 1) (handle three (letter 1 1 (message.Promise slot (ballot_of 1) None)) (second t_3)) (Does (second t_4) []) (ap (by_synod {Reply = KvReply} three (second t_3)) (promises t_3 slot (ballot_of 1) 1 None (attempt 1 theirs) (get_here empty slot (attempt 1 theirs)))))
+event_14 = inl (ends w_13 (replica_id 1) (handle three (letter 1 1 (message.Promise slot (ballot_of 1) None)) (second t_3)) (Does (second t_4) []) (ap (by_synod {Reply = KvReply} three (second t_3)) (promises 3 t_3 slot (ballot_of 1) 1 None (attempt 1 theirs) (get_here empty slot (attempt 1 theirs)))))
 
 event_15 : Step kv w_14 (Deliver 14) Done w_15
-event_15 = inl (ends w_14 (replica_id 1) (handle three (letter 0 1 (message.Promise slot (ballot_of 1) (Some vote))) (second t_4)) (Does (second t_5) (letters_to_all 1 (message.Accept slot (ballot_of 1) mine))) (ap (by_synod {Reply = KvReply} three (second t_4)) (promises t_4 slot (ballot_of 1) 0 (Some vote) (counted_own 1 theirs) (get_here t_3.proposer.attempts slot (counted_own 1 theirs)))))
+event_15 = inl (ends w_14 (replica_id 1) (handle three (letter 0 1 (message.Promise slot (ballot_of 1) (Some vote))) (second t_4)) (Does (second t_5) (letters_to_all 1 (message.Accept slot (ballot_of 1) mine))) (ap (by_synod {Reply = KvReply} three (second t_4)) (promises 3 t_4 slot (ballot_of 1) 0 (Some vote) (counted_own 1 theirs) (get_here t_3.proposer.attempts slot (counted_own 1 theirs)))))
 
 second_leads : Leads kv w_8 second_ballot (done_times 7) w_15
 second_leads = (w_9, event_9, (w_10, event_10, (w_11, event_11, (w_12, event_12, (w_13, event_13, (w_14, event_14, (w_15, event_15, refl)))))))
@@ -276,7 +246,7 @@ abbrev refusal : Sent
 refusal = letter 1 0 (message.Refused slot (ballot_of 0) (ballot_of 1))
 
 event_16 : Step kv w_15 (Deliver 6) Done (with_refusal w_15)
-event_16 = inl (ends w_15 (replica_id 1) (handle three (letter 0 1 (message.Accept slot (ballot_of 0) mine)) (second t_5)) (Does (second t_5) (refusal ∷ [])) (ap (by_synod {Reply = KvReply} three (second t_5)) (accepts t_5 slot (ballot_of 0) 0 mine (promised_to 1 None) (get_here t_2.acceptor slot (promised_to 1 None)))))
+event_16 = inl (ends w_15 (replica_id 1) (handle three (letter 0 1 (message.Accept slot (ballot_of 0) mine)) (second t_5)) (Does (second t_5) (refusal ∷ [])) (ap (by_synod {Reply = KvReply} three (second t_5)) (accepts 3 t_5 slot (ballot_of 0) 0 mine (promised_to 1 None) (get_here t_2.acceptor slot (promised_to 1 None)))))
 
 event_17 : Step kv (with_refusal w_15) (Deliver 19) (Refused fault.NotCurrent) (with_refusal w_15)
 event_17 = inl refl

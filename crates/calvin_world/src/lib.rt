@@ -18,8 +18,8 @@ pub use order::{all_are_woven, kept_order_same_rows};
 pub use serial::{points_are_serial, replicas_are_serial, standing_alike};
 pub use steps::{nothing_to_deliver, pending_can_be_locked, what_grows_nothing_is_silent};
 pub use worked::{
-    cold_submit, empty_epoch, mark_then_snapshot, new_ballot_keeps_the_vote, old_ballot_refused,
-    old_prepare_refused, one_node_run, refused_events, refused_over_a_point,
-    refused_without_tables, reply_not_deliverable, restart_between_phases, snapshot_by_a_point,
-    snapshot_then_restart, snapshot_without_mark,
+    cold_submit, empty_epoch, mark_then_snapshot, move_across_partitions,
+    new_ballot_keeps_the_vote, old_ballot_refused, old_prepare_refused, one_node_run,
+    refused_events, refused_over_a_point, refused_without_tables, reply_not_deliverable,
+    restart_between_phases, snapshot_by_a_point, snapshot_then_restart, snapshot_without_mark,
 };

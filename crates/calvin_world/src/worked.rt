@@ -7,6 +7,7 @@ ghost use Rattle.calvin_app.specs.declared.kv.KvReply.{KvReply};
 ghost use Rattle.calvin_world.specs.Worlds.{WorldState, opening, Leads};
 ghost use Rattle.calvin_world.specs.WorkedCases.{alone, alone_with, no_start, refusals, one_run, one_done, RanOne, done_times, restarting, after_restart, RanRestart, marked_run, marked_done, RanMarked, over_a_point, point_refusals, outbid, outbid_done, RanOutbid, empty_run, empty_done, RanEmpty, reply_delivered, reply_refused, kept_run, kept_done, RanKept, plain_run, plain_done, cold_run, cold_done, RanCold, marked_in_time, marked_in_time_done, RanInTime, unmarked, unmarked_done};
 ghost use Rattle.calvin_world.specs.WorkedBallots.{three, first_ballot, sent_first, second_ballot, sent_second, late_accept, late_refused, with_refusal};
+ghost use Rattle.calvin_world.specs.WorkedMove.{two, move_ordering, move_running, RanMove};
 
 /// A new node refuses what it has no ground for, and is as it was.
 pub fn refused_events<Args, Row, Reply>()
@@ -87,4 +88,10 @@ pub fn new_ballot_keeps_the_vote()
 /// and its record is unchanged. The refusal tells replica 0 of no greater round.
 pub fn old_ballot_refused()
     ensures { (w : WorldState KvRequest ℕ KvReply) × Leads kv (opening three) (first_ballot ++ second_ballot) (done_times 15) w × Leads kv w late_accept late_refused (with_refusal w) }
+{}
+
+/// One replica of two partitions: a number is put at one partition, and some of it moved to a key of the other. Each of the two
+/// sends the other what it read, runs the move, writes what it stores, and replies.
+pub fn move_across_partitions()
+    ensures { (w : WorldState KvRequest ℕ KvReply) × Leads kv (opening two) (move_ordering ++ move_running) (done_times 30) w × RanMove w }
 {}
