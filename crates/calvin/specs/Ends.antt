@@ -1,4 +1,4 @@
--- What a command leaves its devices with.
+-- What a command leaves its devices with. The notion is of this project.
 --     Devices S K E      what is known of an input, an output and a standard error: the bytes left or taken, and the failures
 --     Tells old new failures later line      a line was written where no write failed, and else a proper beginning of it
 --     LeavesDevices d .. status      what holds of every line: which device failed, what stays as it was, and what is told

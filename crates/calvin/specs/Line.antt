@@ -1,4 +1,4 @@
--- Which command lines ask for what.
+-- Which command lines ask for what. They are of this project; what a line is to `clap` is of its specifications.
 --     scout_flag      the flag `--scout` of `serial`
 --     serial_app      the subcommand `serial`
 --     calvin      the program's command line, as clap sees it

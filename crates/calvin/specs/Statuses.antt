@@ -1,4 +1,4 @@
--- How a command ends.
+-- How a command ends. The statuses are of this project.
 --     status_of fault      the exit status of a fault: 2 where the script is refused, 3 where a run didn't end as it was to, 4 for want of memory, 5 where a device failed
 --     IsStatus status      it is one of 0, 2, 4 and 5
 use Rattle.std.specs.Prelude.{◌≡◌, ℕ, ◌⊎◌}

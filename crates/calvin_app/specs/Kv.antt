@@ -1,4 +1,4 @@
--- The application Kv: numbers by key, all in table 0.
+-- The application Kv: numbers by key, all in table 0. It is of this project.
 --     key_of id      the key of table 0 with this number
 --     asked keys      the keys that a get asks for: those of table 0, at most sixteen
 --     pair_of a b      the keys with these numbers, or one where they are the same

@@ -1,4 +1,6 @@
--- What an application is: two definitions, and the laws that they keep.
+-- What an application is: two definitions, and the laws that they keep (Thomson et al. 2012, section 2: what a request does
+-- follows from its arguments and the rows that it reads; section 3.2: it declares the keys that it reads and writes). The
+-- laws are of this project.
 --     Meaning Args Row Reply      the sets that arguments need on a view, and the reply and the writes on it
 --     WritesWithin m      its writes are within the needed writes
 --     AllUpTo top keys      no key is in a table above top

@@ -1,4 +1,5 @@
--- Requests run one at a time on one undivided map.
+-- Requests run one at a time on one undivided map (Thomson et al. 2012, section 3.2: what is run is equivalent to the serial
+-- run in the agreed order; section 3.2.1: a request whose declared sets turn out stale is not run).
 --     is_current m t v      whether the declared sets of t are those that it needs on the view v
 --     answer_on m t v, writes_on m t v      what the request t is answered, and what it writes, on its view
 --     answer_one m t rows, after_one m t rows      one request: its answer, and the rows after it

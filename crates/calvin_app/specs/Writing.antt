@@ -1,4 +1,4 @@
--- Writes as they are gathered: each key once.
+-- Writes as they are gathered: each key once. The form is of this project.
 --     keys_of writes      the keys that are written
 --     with_write k row writes      writes with one more, in place of the one under this key
 use Rattle.std.specs.Prelude.{List, [], ◌∷◌, map, if◌then◌else◌}

@@ -1,4 +1,4 @@
--- The line that tells of a fault.
+-- The line that tells of a fault. It is of this project.
 --     line_of number name      `calvin: `, a number, a space, a name and a line feed
 --     complaint fault      the line of its number and its name
 use Rattle.std.specs.Prelude.{ℕ, List, ◌++◌, codes, decimal}

@@ -1,4 +1,4 @@
--- What a source has given.
+-- What a source has given. The notion is of this project.
 --     ConsumesSome old new n      a source that had the bytes `old` left has given n of them
 use Rattle.std.specs.Prelude.{◌≡◌, ℕ, List, length, Option}
 use Rattle.std.specs.Io.KnownBytes.{Consumes}

@@ -1,4 +1,4 @@
--- What a tally shows.
+-- What a tally shows. The notion is of this project.
 --     count before      the number that a tally shows, from its memory of the one before
 use Rattle.std.specs.Prelude.{ℕ, ◌+◌, Option, Some, None}
 use Rattle.std.specs.declared.snapshot.Snapshot.{Snapshot}

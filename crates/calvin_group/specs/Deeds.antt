@@ -1,4 +1,4 @@
--- How an event of one replica ends in its group.
+-- How an event of one replica ends in its group. The notion is of this project.
 --     IsGroup size members      they are all replicas of a group of that size, in order of their numbers
 --     group_of members packets      the group of these replicas, with these packets
 --     ended answer      the outcome of an event, by how its replica's step ended

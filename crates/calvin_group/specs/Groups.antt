@@ -1,4 +1,5 @@
--- A group of replicas, every packet that was ever sent, and what an event does to it.
+-- A group of replicas, every packet that was ever sent, and what an event does to it ("Paxos Made Simple", section 2.1:
+-- messages take arbitrarily long, are duplicated and lost, but not corrupted).
 --     GroupState B      the replicas' data, by their number, and the packets sent so far, by theirs
 --     opening size      a group at first
 --     packets_of size me letters      the packets that a replica sends in one step
@@ -14,7 +15,7 @@
 --     IsReached size w      some events lead from the opening to it
 --     recorded_by x slot      what a replica has recorded of a slot, if there is such a replica
 --     IsBeginning w early late outcomes after      a beginning of the events led to a group whose learners agree, and the others led on from there
---     Cast, Chosen      the votes cast;  a batch that a majority voted for at one ballot ("Paxos Made Simple", section 2.1)
+--     Cast, Chosen      the votes cast;  a batch that a majority voted for at one ballot ("Paxos Made Simple", section 2.2)
 use Rattle.std.specs.Prelude.{◌≡◌, ℕ, Bool, true, false, List, [], ◌∷◌, ◌++◌, map, length, Option, Some, None, ◌⊎◌, ⊤, slice_get, slice_set, replicate}
 use Rattle.std.specs.List.{Contains, range_with_len}
 use Rattle.std.specs.FinMap.{get}

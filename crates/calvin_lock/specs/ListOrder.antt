@@ -1,4 +1,5 @@
--- A list of requests in the order of their places.
+-- A list of requests in the order of their places (Thomson et al. 2012, section 3.2: locks are requested in the agreed
+-- order). The list is of this project: the plainest lock manager keeps one.
 --     UpTo last requests      no request is at a place past the last one
 --     IsInOrder requests last      the places rise, up to the last one requested
 --     IsAt requests q i      the request of the place q has i before it

@@ -1,4 +1,5 @@
--- What a lock manager keeps, and what each call makes of it.
+-- What a lock manager keeps, and what each call makes of it (Thomson et al. 2012, section 3.2: locks are requested in the
+-- agreed order).
 --     Locking      the unreleased requests, and the last place requested
 --     no_locks      nothing was requested
 --     IsNoKey reads writes      no key is asked for

@@ -1,4 +1,4 @@
--- What lock queues keep of the unreleased requests.
+-- What lock queues keep of the unreleased requests. The notion is of this project.
 --     requests_of pending      the unreleased requests, in any order
 --     IsQueued queues u last      the queues and the waiting places are those of the unreleased requests, in their order
 use Rattle.std.specs.Prelude.{◌≡◌, List, Option, map}

@@ -1,4 +1,5 @@
--- Locks as a queue for each key: who holds it, as a number, and who waits behind them.
+-- Locks as a queue for each key: who holds it, as a number, and who waits behind them (Thomson et al. 2012, section 3.2:
+-- locks are granted in the order in which they were requested). The counts are of this project.
 --     is_shared kind      whether a key is asked for shared
 --     admits h kind      whether one that asks so may hold the key beside those who do
 --     with_holder h kind, without_holder h      with one more, or one less, who holds the key

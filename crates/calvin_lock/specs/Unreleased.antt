@@ -1,4 +1,5 @@
--- The unreleased places, each with its keys and the number of those that it waits for, and the ready ones in order.
+-- The unreleased places, each with its keys and the number of those that it waits for, and the ready ones in order. The
+-- notion is of this project.
 --     Among places q      q is one of these places
 --     Rises places      each place is before all that follow it
 --     SplitsAt places q i      the first i places aren't past q, and the others are

@@ -1,11 +1,12 @@
 -- What each of the other events makes of its node: those of the sequencer, the order, the scheduler and the durable record
 -- (Thomson et al. 2012, sections 3 to 5). An event that is refused changes nothing; refusals are looked at in the order of
 -- the tests.
-use Rattle.std.specs.Prelude.{ℕ, suc, ◌+◌, ◌^◌, max, ◌&&◌, Bool, nat_le, nat_lt, if◌then◌else◌, List, [], ◌∷◌, ◌++◌, Option, Some, None}
+use Rattle.std.specs.Prelude.{ℕ, suc, ◌+◌, max, ◌&&◌, Bool, nat_le, nat_lt, if◌then◌else◌, List, [], ◌∷◌, ◌++◌, Option, Some, None}
 use Rattle.std.specs.List.{filter, list_all, range_with_len}
 use Rattle.std.specs.FinMap.{contains_key}
 use Rattle.calvin_types.specs.declared.fault.Fault.TheVariants as fault
 use Rattle.calvin_types.specs.declared.key.Key.{Key}
+use Rattle.calvin_types.specs.declared.limits.TheConstants.{MOST_ROUNDS}
 use Rattle.calvin_types.specs.declared.place.NodeId.{NodeId}
 use Rattle.calvin_types.specs.declared.place.Place.{Place}
 use Rattle.calvin_types.specs.declared.place.Slot.{Slot}
@@ -35,7 +36,7 @@ use Rattle.calvin_node.specs.declared.act.Act.TheVariants.{Submit, SubmitCold, C
 module _ {Args Row : Type 0} where
   -- a round is left for a new ballot
   abbrev pub has_round : NodeState Args Row → Bool
-  has_round x = nat_lt (max x.synod.proposer.used x.synod.proposer.seen + 1) (2 ^ 32)
+  has_round x = nat_lt (max x.synod.proposer.used x.synod.proposer.seen + 1) MOST_ROUNDS
 
   -- each group's batch of the next epoch is held
   abbrev pub is_complete : Config → NodeState Args Row → Bool

@@ -1,5 +1,6 @@
 -- What a node makes of a packet: a refusal, or the node after it and the packets that it sends, in their order. Each message
--- has its case.
+-- has its case ("Paxos Made Simple", sections 2.2 and 2.3: the synod; Thomson et al. 2012, section 3.1: batches; section 3.2:
+-- remote reads; section 4: rows that are to be in memory). That what is missing is asked for again is of this project.
 use Rattle.std.specs.Prelude.{ℕ, ◌==◌, Bool, false, ◌&&◌, if◌then◌else◌, List, [], ◌∷◌, ◌++◌, Option, Some, None, Result, Ok, Err}
 use Rattle.std.specs.FinMap.{get}
 use Rattle.calvin_types.specs.declared.fault.Fault.{Fault}

@@ -1,4 +1,4 @@
--- What nodes send each other and clients (Thomson et al. 2012, section 3.1: batches; section 3.3: rows that are read;
+-- What nodes send each other and clients (Thomson et al. 2012, section 3.1: batches; section 3.2: rows that are read;
 -- section 4: rows that are to be in memory. "Paxos Made Simple", section 2: the synod's messages).
 use Rattle.std.specs.Prelude.{ℕ, not, ◌==◌, List, [], ◌∷◌, map}
 use Rattle.std.specs.List.{filter, range_with_len}

@@ -22,7 +22,7 @@ pub enum Content<Args, Row, Reply> {
     Decided(Slot, Batch<Args>),
     /// Asks for the batch of a slot.
     AskBatch(Slot),
-    /// The rows that the sender's partition read for the request at a place (section 3.3: remote reads).
+    /// The rows that the sender's partition read for the request at a place (section 3.2: remote reads).
     Reads(Place, View<Row>),
     /// Asks for the rows that were read for the request at a place.
     AskReads(Place),

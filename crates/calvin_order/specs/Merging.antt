@@ -1,4 +1,5 @@
--- What a merge holds.
+-- What a merge holds (Thomson et al. 2012, section 3.1: a scheduler interleaves the batches of an epoch once it has them from
+-- all sequencers).
 --     Batches Args      the batches that are held, by their slots
 --     Holding Args      these, and how many more are sure to find room
 --     Merging Args      the groups, the epoch that is taken next, the batches held, and the memory reserved

@@ -1,9 +1,9 @@
 -- What a sequencer keeps, and what each call makes of it (Thomson et al. 2012, section 3.1: all requests that reach a
 -- sequencer in one epoch are one batch; section 4: a request that may touch cold rows is held back, so that they can be warmed before it runs).
-use Rattle.std.specs.Prelude.{ℕ, zero, suc, ◌+◌, ◌^◌, Bool, ◌&&◌, ◌||◌, not, nat_eq, nat_le, nat_lt, if◌then◌else◌, List, [], ◌∷◌, ◌++◌, map, length, take, drop, Option, Some, None, is_some}
+use Rattle.std.specs.Prelude.{ℕ, zero, suc, ◌+◌, Bool, ◌&&◌, ◌||◌, not, nat_eq, nat_le, nat_lt, if◌then◌else◌, List, [], ◌∷◌, ◌++◌, map, length, take, drop, Option, Some, None, is_some}
 use Rattle.std.specs.List.{filter, list_any}
 use Rattle.calvin_types.specs.declared.fault.Fault.TheVariants.{QueueFull, EmptySets, TooManyAttempts, EpochsSpent}
-use Rattle.calvin_types.specs.declared.limits.TheConstants.{MOST_REQUESTS}
+use Rattle.calvin_types.specs.declared.limits.TheConstants.{MOST_REQUESTS, MOST_UNDECIDED, MOST_EPOCHS}
 use Rattle.calvin_types.specs.declared.txn.Txn.{Txn}
 use Rattle.calvin_types.specs.Deeds.{Deed, Refuses, Does}
 use Rattle.calvin_types.specs.Submitting.{has_key, is_attempt}
@@ -97,7 +97,7 @@ module _ {Args : Type 0} where
   -- where a request is taken, this becomes of the sequencer
   abbrev pub submit_to : Txn Args → Sequencing Args → Sequencing Args → Deed (Sequencing Args) (Unit {0})
   submit_to t s next =
-      if nat_lt (load s) 4096
+      if nat_lt (load s) MOST_UNDECIDED
       then (if has_key t.sets then (if is_attempt t.attempt then Does next tt else Refuses TooManyAttempts) else Refuses EmptySets)
       else Refuses QueueFull
 
@@ -109,13 +109,13 @@ module _ {Args : Type 0} where
   abbrev pub submit_cold : ℕ → Txn Args → Sequencing Args → Deed (Sequencing Args) (Unit {0})
   submit_cold delay t s = submit_to t s (ripened delay (delayed t s))
 
-  -- up to 256 requests from the queue's front are the batch of the next epoch
+  -- as many requests from the queue's front as a batch has are the batch of the next epoch
   abbrev pub closing : Sequencing Args → Sequencing Args
   closing s = record s { queue = drop MOST_REQUESTS s.queue; closed = s.closed ++ (next_epoch s, take MOST_REQUESTS s.queue) ∷ [] }
 
   -- the next batch is closed, and its epoch told
   abbrev pub close : ℕ → Sequencing Args → Deed (Sequencing Args) ℕ
-  close delay s = if nat_lt (next_epoch s) (2 ^ 48) then Does (ripened delay (ticked (closing s))) (next_epoch s) else Refuses EpochsSpent
+  close delay s = if nat_lt (next_epoch s) MOST_EPOCHS then Does (ripened delay (ticked (closing s))) (next_epoch s) else Refuses EpochsSpent
 
   -- the batch of an epoch is decided: closed requests that aren't in it stand at the queue's front again
   abbrev pub decide : ℕ → Batch Args → Sequencing Args → Sequencing Args

@@ -1,4 +1,5 @@
--- What is left of an epoch's requests, group by group.
+-- What is left of an epoch's requests, group by group. The notion is of this project: a merge hands out an epoch's requests
+-- one at a time.
 --     joined_from B e g k      the batches of epoch e of k groups from g on, by ascending group
 --     left_of B slot groups n rest      the requests that are left of the group before the slot's, and of the groups from there on, counted from n
 --     IsWalk group groups n left      no more requests a group than a batch has were given or are left of one

@@ -1,4 +1,5 @@
--- What an issuer does after an answer.
+-- What an issuer does after an answer (Thomson et al. 2012, section 3.2.1: a request whose sets turned out stale is
+-- restarted). The number of attempts is of this project.
 --     again txn sets      the next attempt at a request, with these sets
 --     after txn answer sets      nothing where it was run; else the next attempt, or no more after the eighth
 --     issued txn answer sets      the last attempt from then on

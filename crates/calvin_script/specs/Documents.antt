@@ -1,4 +1,4 @@
--- A piece of JSON that may be a script.
+-- A piece of JSON that may be a script. The form of scripts is of this project.
 --     Json      a piece of JSON, as serde_json's specifications have it
 --     data_of document      the JSON that it is
 --     app_of d      the application that is named, where there is one of that name

@@ -1,4 +1,4 @@
--- What reading gives, unless memory runs out.
+-- What reading gives, unless memory runs out. The notion is of this project.
 use Rattle.std.specs.Prelude.{◌≡◌, Option, Some, None, Result, Ok, Err}
 use Rattle.calvin_script.specs.declared.list.ScriptError.{ScriptError}
 use Rattle.calvin_script.specs.declared.list.ScriptError.TheVariants.{OutOfMemory, BadScript}

@@ -1,4 +1,4 @@
--- What an application adds to the form of scripts.
+-- What an application adds to the form of scripts. The form of scripts is of this project.
 --     Grammar Args      its name, how its operations are written, the sets of each on the empty view, and how declared sets are completed
 --     as_declared      declared sets are complete
 use Rattle.std.specs.Prelude.{ℕ, List, Option, Some}

@@ -1,4 +1,5 @@
--- Requests as a script keeps them: with declared sets, and with none where none were declared.
+-- Requests as a script keeps them: with declared sets, and with none where none were declared. The form of scripts is of this
+-- project.
 --     sets_kept grammar args declared      the sets of a request: those that were declared, else those that its operation needs on the empty view
 --     request_kept grammar id attempt args declared      the request of this name
 use Rattle.std.specs.Prelude.{ℕ, Option, Some, None, is_some}

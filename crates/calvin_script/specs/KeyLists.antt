@@ -1,4 +1,4 @@
--- Keys, and sets of keys, as they are written.
+-- Keys, and sets of keys, as they are written. The form of scripts is of this project.
 --     key d      the key `[table,id]`
 --     key_set form d      the set of a list of keys, none twice and no more than a set has, each written in a form
 use Rattle.std.specs.Prelude.{◌^◌, ◌&&◌, List, [], length, nat_le, Option, Some, option_and_then, is_none}

@@ -1,4 +1,4 @@
--- The operations of the application Kv as they are written.
+-- The operations of the application Kv as they are written. The form of scripts is of this project.
 --     put d, get_of d, add d, move_of d, follow_of d      each operation
 --     kv_operation d      one of them
 --     kv_grammar      Kv's name, its operations, and the sets of each on the empty view; declared sets are complete

@@ -1,4 +1,4 @@
--- The numbers of an operation.
+-- The numbers of an operation. The form of scripts is of this project.
 --     one_number d, two_numbers d, three_numbers d      the numbers that follow the name of an operation, and nothing after them
 use Rattle.std.specs.Prelude.{ℕ, ◌^◌, Option, Some, option_and_then, is_none}
 use Rattle.serde_json.specs.Data.{Data}

@@ -1,4 +1,4 @@
--- The script that bytes are, or why they are none.
+-- The script that bytes are, or why they are none. The form of scripts is of this project.
 --     json bytes      the JSON that bytes are, or BadJson
 --     script_from grammar bytes      the script that bytes are, or BadJson, or BadScript
 --     Reads view result read      what is returned is what is read, unless memory runs out

@@ -1,4 +1,4 @@
--- Requests as they are written.
+-- Requests as they are written. The form of scripts is of this project.
 --     id_of client own_number      a request's name
 --     declared reads writes      the sets that are declared
 --     sets_of grammar args reads writes      the declared sets, both or neither, completed; else those on the empty view

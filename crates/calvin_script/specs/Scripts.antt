@@ -1,4 +1,4 @@
--- Scripts as they are written, and what they say.
+-- Scripts as they are written, and what they say. The form of scripts is of this project.
 --     Contents Args      how many partitions there are, and the batches that each epoch lists
 --     requests_at contents slot      the requests listed for the slot's group in the slot's epoch; none where no batch is
 --     batch_at contents slot      the batch that they are

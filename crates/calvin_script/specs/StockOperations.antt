@@ -1,4 +1,4 @@
--- The operations of the application Stock as they are written.
+-- The operations of the application Stock as they are written. The form of scripts is of this project.
 --     line d      the line `[i,q]` of an order
 --     order_of_lines u o lines      the order o of the customer u with these lines, where they are the lines of one
 --     additem d, restock d, open_of d, payin d, order d, settle d, balance d      each operation

@@ -1,4 +1,5 @@
--- What the engine `serial` writes.
+-- What the engine `serial` writes. The text is of this project; what it tells is the serial run of the merged order (Thomson
+-- et al. 2012, sections 3.1 and 3.2).
 --     text_of m show sets script      the lines of the serial run of the script's merged order on no rows, with undeclared sets of this kind, and the last epoch
 --     text_for m grammar show sets d      the text for the JSON of a script for an application, or why there is none
 --     text_in sets d      the same for the application that it names

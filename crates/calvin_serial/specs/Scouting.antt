@@ -1,4 +1,5 @@
--- The merged order of a script, each request with its sets.
+-- The merged order of a script, each request with its sets. Sets that were not declared are found by a look at rows (Thomson
+-- et al. 2012, section 3.2.1); that all requests of an epoch look at the rows before it is of this project.
 --     scouted_txn m rows r      the request r with the sets that it declares, or else with those that are found over these rows
 --     scouted_epoch m rows requests      so all requests of an epoch, over the rows before it
 --     scouted_order m script rows e n      so the merged order of n epochs from e on, each over the rows that the epochs before it leave of these

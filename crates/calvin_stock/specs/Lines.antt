@@ -1,4 +1,4 @@
--- The lines of an order.
+-- The lines of an order. They are of this project.
 --     names_item lines i      whether a line is of the item i
 --     has_distinct_items lines      whether no item comes twice
 --     is_in_range line      whether its pieces are from 1 to 10^9

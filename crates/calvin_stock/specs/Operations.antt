@@ -1,4 +1,5 @@
 -- What each operation of Stock is told and writes. The checks stand in their order; where one is told, nothing is written.
+-- The operations are of this project.
 --     Outcome      a reply, and the writes
 --     told reply      nothing is written
 --     add_item i s c there      a new item with s pieces at the price c, where the row under its key is this one

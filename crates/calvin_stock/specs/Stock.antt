@@ -1,4 +1,5 @@
--- The application Stock.
+-- The application Stock. It is of this project; a settlement is a request whose sets depend on rows (Thomson et al. 2012,
+-- section 3.2.1).
 --     item_keys lines      the keys of the items of lines
 --     order_keys o      the keys of an order: its items, itself and its customer
 --     last_order found      the number of the customer's last order, if there is one

@@ -1,4 +1,4 @@
--- The rows of Stock: customers in table 1, items in table 2, orders in table 3.
+-- The rows of Stock: customers in table 1, items in table 2, orders in table 3. They are of this project.
 --     customer_key u, item_key i, order_key o      the keys of the customer, the item and the order with this number
 --     as_customer r, as_item r, as_order r      the row, if it is one of this kind
 --     customer_at rows u, item_at rows i, order_at rows o      the customer, the item and the order with this number, if there is one

@@ -1,4 +1,4 @@
--- The totals of Stock: what was paid in is there, and so are the pieces, or they were ordered.
+-- The totals of Stock: what was paid in is there, and so are the pieces, or they were ordered. They are of this project.
 --     cents_of r      the cents of a row: a customer's balance, a settled order's total
 --     cents_in rows      all balances, and the totals of all settled orders
 --     stock_at rows i      the pieces of the item i in stock

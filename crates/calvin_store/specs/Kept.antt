@@ -1,4 +1,4 @@
--- What a keeper with all rows in memory is seen as.
+-- What a keeper with all rows in memory is seen as. The notion is of this project.
 use Rattle.std.specs.Prelude.{ℕ, refl}
 use Rattle.std.specs.Coded.{Coded, code_by, coded×, coded_ℕ}
 use Rattle.std.specs.FinMap.{code}

@@ -1,4 +1,5 @@
--- What one replica makes of a message or an event of its group's synods: its data after it, what it sends, and what its learner gives.
+-- What one replica makes of a message or an event of its group's synods: its data after it, what it sends, and what its
+-- learner gives ("Paxos Made Simple", sections 2.2 and 2.3; one instance for each slot, section 3).
 --     slot_of message      which slot a message is about
 --     message_grows message      what handles it keeps or sends more, so that memory may be wanting: all but a refusal
 --     Replica B      the data of one replica, by role
@@ -8,11 +9,12 @@
 --     propose me slot batch x      what replica me makes of a batch to propose
 --     restart x      what it is after a restart
 --     fresh      what it is at first
-use Rattle.std.specs.Prelude.{ℕ, Bool, true, false, ◌+◌, ◌^◌, Option, Some, None, nat_lt, if◌then◌else◌, max}
+use Rattle.std.specs.Prelude.{ℕ, Bool, true, false, ◌+◌, Option, Some, None, nat_lt, if◌then◌else◌, max}
 use Rattle.std.specs.FinMap.{empty}
 use Rattle.calvin_types.specs.declared.place.Ballot.{Ballot}
 use Rattle.calvin_types.specs.declared.place.Slot.{Slot}
 use Rattle.calvin_types.specs.declared.fault.Fault.{Fault}
+use Rattle.calvin_types.specs.declared.limits.TheConstants.{MOST_ROUNDS}
 use Rattle.calvin_types.specs.declared.fault.Fault.TheVariants.{RoundsSpent, NotCurrent, Known}
 use Rattle.calvin_synod.specs.declared.vote.Vote.{Vote}
 use Rattle.calvin_synod.specs.declared.attempt.Attempt.{Attempt}
@@ -94,7 +96,7 @@ module _ {B : Type 0} where
   -- a new ballot for a slot, which a prepare tells all (phase 1a)
   abbrev pub propose : ℕ → Slot → B → Replica B → Deed B
   propose me slot batch x =
-      if nat_lt (max x.proposer.used x.proposer.seen + 1) (2 ^ 32)
+      if nat_lt (max x.proposer.used x.proposer.seen + 1) MOST_ROUNDS
       then Does (record x { proposer = started me x.proposer slot batch }) (ToAll (Prepare slot (next_ballot me x.proposer))) None
       else Refuses RoundsSpent
 

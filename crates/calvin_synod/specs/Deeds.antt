@@ -1,4 +1,5 @@
--- How what a replica is asked for ends, by the deed that its case states.
+-- How what a replica is asked for ends, by the deed that its case states. The notion is of this project: a refusal changes
+-- nothing, and want of memory comes only where something grows.
 --     MemberState B      one replica of a group: the group's size, its number, and its data
 --     IsMember      its roles are those of that size and number
 --     letters_of mail      what is sent, as a deed has it

@@ -1,4 +1,4 @@
--- Majorities of a group, and what a majority chooses ("Paxos Made Simple", section 2.1).
+-- Majorities of a group, and what a majority chooses ("Paxos Made Simple", section 2.2).
 --     IsIn a replicas      the replica is among these
 --     majority size      how many replicas are a majority of a group of this size
 --     IsMajority size replicas      distinct replicas of the group, and more than half of it

@@ -1,4 +1,5 @@
--- What the parts of a replica show in contracts, beside the data of their role: how large the group is, and whether room is kept.
+-- What the parts of a replica show in contracts, beside the data of their role ("Paxos Made Simple", section 2.2: acceptors
+-- and proposers; section 2.3: learners): how large the group is, and whether room is kept. Room is of this project.
 --     BySlot V      what is kept by slot, and how many more slots are sure to find room
 --     Tallied      whose votes are counted, and how many more proposals are sure to find room
 --     AcceptorState B, ProposerState B, LearnerState      the three roles

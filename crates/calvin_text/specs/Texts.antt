@@ -1,4 +1,4 @@
--- What is written of answers.
+-- What is written of answers. The texts are of this project.
 --     place_text p, id_text id      `epoch.n` and `client:number`
 --     kv_text reply, stock_text reply      a reply of Kv, a reply of Stock
 --     line show p id answer      `epoch.n client:number answer`

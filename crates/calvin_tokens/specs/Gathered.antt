@@ -1,10 +1,11 @@
--- What is gathered of the members of a request, of a batch and of a script is what these spell.
+-- What is gathered of the members of a request, of a batch and of a script is what these spell. The notion is of this project.
 --     spelled_by f name found      what the member of this name spells, where it is there
 --     given seen x      x, where it was seen
 --     HoldsRequest, HoldsBatch, HoldsScript grammar found gathered      what was gathered of the members that were found
 use Rattle.std.specs.Prelude.{◌≡◌, ◌^◌, ℕ, Bool, true, false, List, map, Option, Some, None, option_map, codes}
 use Rattle.serde_json.specs.Data.{Data, Members}
 use Rattle.serde_json.specs.Find.{get_member, as_str}
+use Rattle.calvin_types.specs.declared.limits.TheConstants.{MOST_PARTITIONS}
 use Rattle.calvin_script.specs.Spelling.{below, between, list, are_named, optional}
 use Rattle.calvin_script.specs.KeyLists.{key, key_set}
 use Rattle.calvin_script.specs.Grammar.{Grammar}
@@ -38,7 +39,7 @@ pub record HoldsBatch {Args : Type 0} (grammar : Grammar Args) (found : Members)
   pub named : are_named batch_names found ≡ true
 
 pub record HoldsScript {Args : Type 0} (grammar : Grammar Args) (found : Members) (s : ScriptMembers (Request Args)) : Type 0 where
-  pub partitions : spelled_by (between 1 16) (codes "partitions") found ≡ option_map Some s.partitions
+  pub partitions : spelled_by (between 1 MOST_PARTITIONS) (codes "partitions") found ≡ option_map Some s.partitions
   pub app : spelled_by as_str (codes "app") found ≡ given s.has_app grammar.app_name
   pub epochs : spelled_by (list (list (batch grammar))) (codes "epochs") found ≡ option_map (λ v. Some (map all_listed v.items)) s.epochs
   pub named : are_named script_names found ≡ true

@@ -1,4 +1,5 @@
--- What the tokens of a reader spell: the data that serde_json reads from them, and what that data spells in a script.
+-- What the tokens of a reader spell: the data that serde_json reads from them, and what that data spells in a script. The
+-- notion is of this project; the tokens are those of the kit's json.
 --     Reads deep ts d rest      the tokens are those of d, which nests at most `deep` levels, and then the rest
 --     ReadsItems, ReadsMembers      the same of what stands in an array, and in an object of which members were found before
 --     Spells f deep ts x rest      the tokens are those of data that spells x, and then the rest

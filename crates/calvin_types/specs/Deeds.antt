@@ -1,4 +1,5 @@
--- What a call makes of data.
+-- What a call makes of data. The notion is of this project: a step is a function, so which refusal comes is the order of its
+-- tests.
 --     Deed S Out      a refusal, or the data after it and what comes out
 use Rattle.calvin_types.specs.declared.fault.Fault.{Fault}
 

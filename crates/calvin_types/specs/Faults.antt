@@ -1,4 +1,4 @@
--- The number and the name of each fault.
+-- The number and the name of each fault. Both are of this project: they are what is printed of a fault.
 --     number_of fault      its number
 --     name_of fault      its name, as the codes of its letters
 use Rattle.std.specs.Prelude.{ℕ, List, codes}

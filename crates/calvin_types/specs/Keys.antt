@@ -1,4 +1,4 @@
--- Keys, their order, and lists of keys that rise.
+-- Keys, their order, and lists of keys that rise. The order is of this project.
 --     key_cmp a b      keys are ordered by table, and then by id
 --     same_key a b      whether two keys are one
 --     has keys k      whether k is one of the keys

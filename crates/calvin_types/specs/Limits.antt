@@ -1,4 +1,4 @@
--- How large things may be.
+-- How large things may be. All limits are of this project.
 --     IsInRange partitions replicas      1 to 16 partitions and 1 to 7 replicas
 use Rattle.std.specs.Prelude.{ℕ, ◌≤◌, ◌<◌}
 use Rattle.calvin_types.specs.declared.limits.TheConstants.{MOST_PARTITIONS, MOST_REPLICAS}

@@ -1,4 +1,4 @@
--- An order: requests at places that rise.
+-- An order: requests at places that rise (Thomson et al. 2012, section 3.1: one global order of requests).
 --     Order Args      requests, each with its place
 --     StandsAt order q t      the request t stands at the place q
 --     Rises order      each place is before all that follow it

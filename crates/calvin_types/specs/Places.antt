@@ -1,4 +1,5 @@
--- Places, slots, ballots and nodes: their orders.
+-- Places, slots, ballots and nodes: their orders (Thomson et al. 2012, section 3.1: an order by epochs, and in an epoch by
+-- sequencers).
 --     place_cmp, slot_cmp      by epoch, and then by number, or by group
 --     ballot_cmp      by round, and then by replica ("Paxos Made Simple", section 2.2: proposal numbers are totally ordered)
 --     node_cmp      by replica, and then by partition

@@ -1,4 +1,6 @@
--- Which requests a sequencer takes, whatever it has taken before.
+-- Which requests a sequencer takes, whatever it has taken before. That sets are declared is of Thomson et al. 2012, section
+-- 3.2; that empty ones are refused, and how many attempts there are at a request whose sets were stale (section 3.2.1: it is
+-- restarted), is of this project.
 --     has_key sets      there is a key in one of the sets
 --     is_attempt n      an issuer makes eight attempts, counted from 1
 --     is_taken t      the request has a key, and its attempt is one of these

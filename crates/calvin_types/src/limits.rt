@@ -14,3 +14,12 @@ pub const MOST_REPLICAS: u8 = 7;
 
 /// The most attempts at a request that an issuer makes.
 pub const MOST_ATTEMPTS: u8 = 8;
+
+/// The most requests that a sequencer has undecided: queued, held back, or closed in a batch that isn't decided.
+pub const MOST_UNDECIDED: usize = 4096;
+
+/// How many epochs there are, numbered from 0: no batch is closed for a later one.
+pub const MOST_EPOCHS: u64 = 1 << 48;
+
+/// The rounds of ballots are below this number.
+pub const MOST_ROUNDS: u64 = 1 << 32;

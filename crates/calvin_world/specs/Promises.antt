@@ -1,5 +1,5 @@
 -- What is promised of the world after every list of events: agreement, and that every replica is the serial run ("Paxos Made
--- Simple", section 2.1: a value is chosen when a majority has accepted it; Thomson et al. 2012, section 3: all replicas
+-- Simple", section 2.2: a value is chosen when a majority has accepted it; Thomson et al. 2012, section 3: all replicas
 -- execute one order, equivalent to running its requests one at a time).
 use Rattle.std.specs.Prelude.{◌≡◌, ℕ, suc, ◌<◌, ◌≤◌, true, ◌⊎◌, List, [], ◌∷◌, ◌++◌, map, Option, Some, slice_get}
 use Rattle.std.specs.List.{Contains}

@@ -1,4 +1,5 @@
 -- Worked cases of a world of one replica and one partition, over numbers by key: lists of events, with the outcome of each.
+-- The cases are of this project.
 use Rattle.std.specs.Prelude.{◌≡◌, ℕ, ◌+◌, Bool, true, List, [], ◌∷◌, ◌++◌, replicate, length, Some, None, Ok, Err, slice_get}
 use Rattle.std.specs.FinMap.{empty, get, insert}
 use Rattle.calvin_types.specs.declared.fault.Fault.TheVariants as fault

@@ -1,5 +1,7 @@
 -- The world: the data of each node and every packet that was ever sent, and what an event does to it. A packet stays, so each
--- may be delivered late, again or never; whatever is delivered was sent.
+-- may be delivered late, again or never; whatever is delivered was sent ("Paxos Made Simple", section 2.1: messages take
+-- arbitrarily long, are duplicated and lost, but not corrupted; Thomson et al. 2012, section 3: replicas, each divided into
+-- partitions).
 use Rattle.std.specs.Prelude.{◌≡◌, ℕ, Bool, true, false, ◌+◌, ◌*◌, ◌/◌, ◌%◌, ◌&&◌, nat_lt, if◌then◌else◌, List, [], ◌∷◌, ◌++◌, map, Option, Some, None, ◌⊎◌, ⊤, slice_get, slice_set}
 use Rattle.std.specs.List.{range_with_len}
 use Rattle.calvin_types.specs.declared.fault.Fault.TheVariants.{OutOfMemory, NoNode, NoPacket, NotMine}
