@@ -1,12 +1,11 @@
 -- What each of the other events makes of its node: those of the sequencer, the order, the scheduler and the durable record
 -- (Thomson et al. 2012, sections 3 to 5). An event that is refused changes nothing; refusals are looked at in the order of
 -- the tests.
-use Rattle.std.specs.Prelude.{ℕ, suc, ◌+◌, max, ◌&&◌, Bool, nat_le, nat_lt, if◌then◌else◌, List, [], ◌∷◌, ◌++◌, Option, Some, None}
+use Rattle.std.specs.Prelude.{ℕ, suc, ◌&&◌, Bool, nat_le, nat_lt, if◌then◌else◌, List, [], ◌∷◌, ◌++◌, Option, Some, None}
 use Rattle.std.specs.List.{filter, list_all, range_with_len}
 use Rattle.std.specs.FinMap.{contains_key}
 use Rattle.calvin_types.specs.declared.fault.Fault.TheVariants as fault
 use Rattle.calvin_types.specs.declared.key.Key.{Key}
-use Rattle.calvin_types.specs.declared.limits.TheConstants.{MOST_ROUNDS}
 use Rattle.calvin_types.specs.declared.place.NodeId.{NodeId}
 use Rattle.calvin_types.specs.declared.place.Place.{Place}
 use Rattle.calvin_types.specs.declared.place.Slot.{Slot}
@@ -34,10 +33,6 @@ use Rattle.calvin_node.specs.declared.act.Act.{Act}
 use Rattle.calvin_node.specs.declared.act.Act.TheVariants.{Submit, SubmitCold, Cool, Close, Merge, Lock, Restart, Propose, Snapshot, Mark, Begin, Finish, AskForReads, AskForBatch}
 
 module _ {Args Row : Type 0} where
-  -- a round is left for a new ballot
-  abbrev pub has_round : NodeState Args Row → Bool
-  has_round x = nat_lt (max x.synod.proposer.used x.synod.proposer.seen + 1) MOST_ROUNDS
-
   -- each group's batch of the next epoch is held
   abbrev pub is_complete : Config → NodeState Args Row → Bool
   is_complete c x = list_all (λ g. contains_key x.held (record { epoch = x.merged_epochs; group = g })) (range_with_len 0 c.partitions)
@@ -82,7 +77,7 @@ module _ {Args Row Reply : Type 0} where
   -- a new ballot for the closed batch of an epoch
   abbrev pub propose : Config → ℕ → NodeState Args Row → NodeDeed Args Row Reply
   propose c e x =
-      if has_round x
+      if synod.has_round x.synod
       then propose_closed c e x (sequencing.closed_in x.sequencer.closed e)
       else Refuses fault.RoundsSpent
 

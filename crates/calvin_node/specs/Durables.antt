@@ -1,17 +1,15 @@
 -- The durable record of a node, and a node that is opened from one in a store whose order may have changed (Thomson et al.
 -- 2012, section 5: a node loads a checkpoint and replays the agreed inputs).
-use Rattle.std.specs.Prelude.{ℕ, Bool, true, false, ◌&&◌, ◌||◌, not, nat_eq, nat_lt, if◌then◌else◌, [], Option, Some, None, Result, Ok, Err}
-use Rattle.std.specs.FinMap.{empty}
+use Rattle.std.specs.Prelude.{ℕ, Bool, true, false, ◌&&◌, ◌||◌, not, nat_eq, nat_lt, if◌then◌else◌, Option, Some, None, Result, Ok, Err}
 use Rattle.calvin_types.specs.declared.fault.Fault.{Fault}
 use Rattle.calvin_types.specs.declared.fault.Fault.TheVariants.{OrderChanged}
 use Rattle.calvin_types.specs.declared.place.NodeId.{NodeId}
 use Rattle.calvin_app.specs.Rows.{Rows}
+use Rattle.calvin_synod.specs.Cases.{replica_from}
 use Rattle.calvin_synod.specs.Roles.{Records}
 use Rattle.calvin_order.specs.Configs.{Config}
-use Rattle.calvin_order.specs.Merged.{Batch, end_of}
-use Rattle.calvin_order.specs.Sequencing.{sequencing_from}
-use Rattle.calvin_sched.specs.Scheduling.{opened}
-use Rattle.calvin_node.specs.NodeStates.{NodeState}
+use Rattle.calvin_order.specs.Merged.{Batch}
+use Rattle.calvin_node.specs.NodeStates.{NodeState, node_from}
 
 -- what outlives a restart, and the first woven epoch under which it was made
 pub record Durable (Args Row : Type 0) : Type 0 where
@@ -46,18 +44,7 @@ module _ {Args Row : Type 0} where
 
   -- a node with this record
   abbrev pub opened_by : NodeId → Durable Args Row → NodeState Args Row
-  opened_by id d = record {
-    id = id;
-    synod = record { acceptor = d.acceptor; proposer = record { used = d.used; seen = 0; attempts = empty }; learner = record { counted = empty; given = empty } };
-    sequencer = sequencing_from d.kept_epochs;
-    held = empty;
-    merged_epochs = d.kept_epochs;
-    due = [];
-    pending = [];
-    scheduler = opened (end_of d.kept_epochs) d.kept_rows;
-    kept_epochs = d.kept_epochs;
-    kept_rows = d.kept_rows;
-  }
+  opened_by id d = node_from id (replica_from d.acceptor d.used) d.kept_epochs d.kept_rows
 
   -- a node that is opened from a record: the epochs of its snapshot have to be ordered as they were
   abbrev pub from_durable : Config → NodeId → Durable Args Row → Result (NodeState Args Row) Fault

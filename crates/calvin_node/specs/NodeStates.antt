@@ -33,20 +33,24 @@ pub record NodeState (Args Row : Type 0) : Type 0 where
   pub kept_rows : Rows Row
 
 module _ {Args Row : Type 0} where
-  -- a node at first
-  abbrev pub new_node : NodeId → NodeState Args Row
-  new_node id = record {
+  -- a node that is opened with a synod, and with a snapshot of so many epochs
+  abbrev pub node_from : NodeId → Replica (Batch Args) → ℕ → Rows Row → NodeState Args Row
+  node_from id synod epochs rows = record {
     id = id;
-    synod = fresh;
-    sequencer = sequencing_from 0;
+    synod = synod;
+    sequencer = sequencing_from epochs;
     held = empty;
-    merged_epochs = 0;
+    merged_epochs = epochs;
     due = [];
     pending = [];
-    scheduler = opened (end_of 0) empty;
-    kept_epochs = 0;
-    kept_rows = empty;
+    scheduler = opened (end_of epochs) rows;
+    kept_epochs = epochs;
+    kept_rows = rows;
   }
+
+  -- a node at first
+  abbrev pub new_node : NodeId → NodeState Args Row
+  new_node id = node_from id fresh 0 empty
 
   abbrev pub site_of : ℕ → NodeState Args Row → Site
   site_of parts x = site parts x.id.partition
@@ -73,15 +77,4 @@ module _ {Args Row : Type 0} where
 
   -- what a restart leaves: the synod's durable part, here as it is after one, and the last snapshot
   abbrev pub restarted : NodeState Args Row → Replica (Batch Args) → NodeState Args Row
-  restarted x s = record {
-    id = x.id;
-    synod = s;
-    sequencer = sequencing_from x.kept_epochs;
-    held = empty;
-    merged_epochs = x.kept_epochs;
-    due = [];
-    pending = [];
-    scheduler = opened (end_of x.kept_epochs) x.kept_rows;
-    kept_epochs = x.kept_epochs;
-    kept_rows = x.kept_rows;
-  }
+  restarted x s = node_from x.id s x.kept_epochs x.kept_rows

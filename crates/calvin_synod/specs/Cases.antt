@@ -6,7 +6,9 @@
 --     Letters B      what is sent in one step: nothing, one message to one replica, or one to all
 --     Deed B      a refusal, or the data after the step, what is sent, and the batch that the learner gives for a slot, if any
 --     handle size from message x      what a replica of a group of this size makes of a message that the replica `from` sent
+--     has_round x      whether a round is left for a new ballot
 --     propose me slot batch x      what replica me makes of a batch to propose
+--     replica_from records used      a replica that has these promises and votes and has used rounds up to this one, and nothing else
 --     restart x      what it is after a restart
 --     fresh      what it is at first
 use Rattle.std.specs.Prelude.{ℕ, Bool, true, false, ◌+◌, Option, Some, None, nat_lt, if◌then◌else◌, max}
@@ -93,17 +95,25 @@ module _ {B : Type 0} where
   handle size from (Refused slot ballot promise) x = refused x promise
   handle size from (Accepted slot ballot batch) x = accepted size from x slot ballot batch
 
+  -- a round is left for a new ballot
+  abbrev pub has_round : Replica B → Bool
+  has_round x = nat_lt (max x.proposer.used x.proposer.seen + 1) MOST_ROUNDS
+
   -- a new ballot for a slot, which a prepare tells all (phase 1a)
   abbrev pub propose : ℕ → Slot → B → Replica B → Deed B
   propose me slot batch x =
-      if nat_lt (max x.proposer.used x.proposer.seen + 1) MOST_ROUNDS
+      if has_round x
       then Does (record x { proposer = started me x.proposer slot batch }) (ToAll (Prepare slot (next_ballot me x.proposer))) None
       else Refuses RoundsSpent
 
+  -- a replica that has these promises and votes and has used rounds up to this one, and nothing else
+  abbrev pub replica_from : Records B → ℕ → Replica B
+  replica_from records used = record { acceptor = records; proposer = record { used = used; seen = 0; attempts = empty }; learner = record { counted = empty; given = empty } }
+
   -- promises, votes and the greatest round used are kept
   abbrev pub restart : Replica B → Deed B
-  restart x = Does (record { acceptor = x.acceptor; proposer = record { used = x.proposer.used; seen = 0; attempts = empty }; learner = record { counted = empty; given = empty } }) Silent None
+  restart x = Does (replica_from x.acceptor x.proposer.used) Silent None
 
   -- nothing promised, voted, proposed or counted
   unfoldable pub fresh : Replica B
-  fresh = record { acceptor = empty; proposer = record { used = 0; seen = 0; attempts = empty }; learner = record { counted = empty; given = empty } }
+  fresh = replica_from empty 0

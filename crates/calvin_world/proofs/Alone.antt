@@ -9,16 +9,15 @@ use Rattle.calvin_types.specs.Deeds.{Refuses, Does}
 use Rattle.calvin_types.specs.Participants.{site}
 use Rattle.calvin_types.specs.Places.{place_cmp, slot_cmp}
 use Rattle.calvin_app.specs.Meaning.{Meaning}
-use Rattle.calvin_synod.specs.Cases.{Replica, fresh}
-use Rattle.calvin_order.specs.Merged.{Batch, end_of, numbered}
-use Rattle.calvin_order.specs.Sequencing.{sequencing_from}
-use Rattle.calvin_sched.specs.Scheduling.{Turn, opened}
+use Rattle.calvin_synod.specs.Cases.{Replica, fresh, replica_from}
+use Rattle.calvin_order.specs.Merged.{Batch, numbered}
+use Rattle.calvin_sched.specs.Scheduling.{Turn}
 use Rattle.calvin_sched.specs.Standing.{local_places}
 use Rattle.calvin_sched.specs.Steps as sched
 use Rattle.calvin_node.specs.declared.packet.Packet.{Packet}
 use Rattle.calvin_node.specs.declared.packet.Address.TheVariants.{AtNode}
 use Rattle.calvin_node.specs.declared.act.Act.TheVariants.{Merge, Begin}
-use Rattle.calvin_node.specs.NodeStates.{NodeState}
+use Rattle.calvin_node.specs.NodeStates.{NodeState, node_from}
 use Rattle.calvin_node.specs.Handling.{NodeDeed, handle}
 use Rattle.calvin_node.specs.Acting as node
 use Rattle.calvin_world.specs.declared.event.Event.{Event}
@@ -31,7 +30,7 @@ use Rattle.calvin_world.specs.Worlds.{WorldState, carry_out, deliver, deliver_to
 module _ {Args : Type 0} where
   -- the synod at first
   abbrev pub new_synod : Replica (Batch Args)
-  new_synod = record { acceptor = empty; proposer = record { used = 0; seen = 0; attempts = empty }; learner = record { counted = empty; given = empty } }
+  new_synod = replica_from empty 0
 
   pub is_new : fresh {B = Batch Args} ≡ new_synod
   unfolding fresh
@@ -40,7 +39,7 @@ module _ {Args : Type 0} where
 module _ {Args Row : Type 0} where
   -- the node at first
   abbrev pub first_node : NodeState Args Row
-  first_node = record { id = own_id; synod = new_synod; sequencer = sequencing_from 0; held = empty; merged_epochs = 0; due = []; pending = []; scheduler = opened (end_of 0) empty; kept_epochs = 0; kept_rows = empty }
+  first_node = node_from own_id new_synod 0 empty
 
   -- the node that has merged e epochs
   abbrev pub at_epoch : NodeState Args Row → ℕ → NodeState Args Row
@@ -61,7 +60,7 @@ module _ {Args Row Reply : Type 0} where
     one x packets = record { config = alone_with points cold; nodes = x ∷ []; packets = packets }
 
     pub opening_is : one first_node [] ≡ opening (alone_with points cold)
-    opening_is = λ i. record { config = alone_with points cold; nodes = record { id = own_id; synod = sym (is_new {Args = Args}) i; sequencer = sequencing_from 0; held = empty; merged_epochs = 0; due = []; pending = []; scheduler = opened (end_of 0) empty; kept_epochs = 0; kept_rows = empty } ∷ []; packets = [] }
+    opening_is = λ i. record { config = alone_with points cold; nodes = node_from own_id (sym (is_new {Args = Args}) i) 0 empty ∷ []; packets = [] }
 
     -- a deed that takes effect there, or is refused
     pub done_at : (x next : NodeState Args Row) (packets sent : List (Packet Args Row Reply)) (deed : NodeDeed Args Row Reply) → deed ≡ Does next sent → (Done, one next (packets ++ sent)) ≡ carry_out (one x packets) own_id deed

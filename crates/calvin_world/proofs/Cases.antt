@@ -8,7 +8,7 @@ use Rattle.std.specs.Prelude.{◌^◌, if◌then◌else◌, slice_get, slice_set
 use Rattle.std.specs.List.{list_all, range_with_len}
 use Rattle.std.specs.Ordering.{eq_by_cmp}
 use Rattle.std.specs.Cmp.{Equal-is}
-use Rattle.std.specs.FinMap.{get, contains_key, empty}
+use Rattle.std.specs.FinMap.{get, contains_key}
 use Rattle.std.proofs.lemmas.Bool.{false≢true, and_parts, eqb-true, cases_lt}
 use Rattle.calvin_types.specs.declared.fault.Fault.{Fault}
 use Rattle.calvin_types.specs.declared.fault.Fault.TheVariants as fault
@@ -28,7 +28,7 @@ use Rattle.calvin_app.specs.Stores.{Point, marked, is_hot, cooled}
 use Rattle.calvin_synod.specs.declared.message.Message.{Message}
 use Rattle.calvin_synod.specs.declared.message.Message.TheVariants.{Prepare, Promise, Accept, Refused, Accepted}
 use Rattle.calvin_synod.specs.Cases as synod
-use Rattle.calvin_synod.specs.Cases.{Replica, Letters, slot_of}
+use Rattle.calvin_synod.specs.Cases.{Replica, Letters, slot_of, replica_from}
 use Rattle.calvin_order.specs.Configs.{Config, merged}
 use Rattle.calvin_order.specs.Merged.{Batch, end_of}
 use Rattle.calvin_order.specs.Sequencing as sequencing
@@ -59,7 +59,7 @@ use Rattle.calvin_bench.proofs.Deeds.{refuses_not, does_is, admit_does, begin_do
 
 -- what a restart leaves of a synod
 abbrev pub restarted_synod : {B : Type 0} → Replica B → Replica B
-restarted_synod x = record { acceptor = x.acceptor; proposer = record { used = x.proposer.used; seen = 0; attempts = empty }; learner = record { counted = empty; given = empty } }
+restarted_synod x = replica_from x.acceptor x.proposer.used
 
 module _ {Args Row : Type 0} where
   -- a snapshot at the end of the first n epochs takes the rows of a node that stands there,
@@ -325,7 +325,7 @@ module _ {Args Row Reply : Type 0} (config : Config) (x : NodeState Args Row) (n
         by_point None e = by_hot (is_hot x.scheduler.store k) e
 
     pub propose_does : (n : ℕ) → node.propose config n x ≡ Does next sent → Acts m config (Propose n) x next sent
-    propose_does n e = by_round (node.has_round x) e
+    propose_does n e = by_round (synod.has_round x.synod) e
       where
         by_held : (batch : Batch Args) → sequencing.closed_in x.sequencer.closed n ≡ Some batch → (b : Bool) → cond b (Refuses fault.Decided) (handling.by_synod config x (synod.propose x.id.replica (own_slot x n) batch x.synod)) ≡ Does next sent → Acts m config (Propose n) x next sent
         by_held batch is true e = absurd (refuses_not e)

@@ -135,7 +135,7 @@ module _ (points cold : Bool) (before : Node) (e : ℕ) (batch : Batch KvRequest
       })
       Silent (cond (nat_le (majority 1) (length voters + 1)) (Some (slot, batch)) None))
 
-  pub proposed : node.has_round x ≡ true → closed_in x.sequencer.closed e ≡ Some batch → get x.held slot ≡ None → ◌≡◌ {A = KvDeed} (node.propose c e x) (Does proposing (asks e ballot ∷ []))
+  pub proposed : synod.has_round x.synod ≡ true → closed_in x.sequencer.closed e ≡ Some batch → get x.held slot ≡ None → ◌≡◌ {A = KvDeed} (node.propose c e x) (Does proposing (asks e ballot ∷ []))
   proposed round closed unheld =
       ap (λ (b : Bool). cond b (node.propose_closed {Reply = KvReply} c e x (closed_in x.sequencer.closed e)) (Refuses fault.RoundsSpent)) round
       ∙ ap (node.propose_closed {Reply = KvReply} c e x) closed
@@ -164,7 +164,7 @@ module _ (points cold : Bool) (before : Node) (e : ℕ) (batch : Batch KvRequest
 
   -- nothing is known of the slot, and the epoch's batch is closed
   pub record IsFree : Type 0 where
-    pub round : node.has_round x ≡ true
+    pub round : synod.has_round x.synod ≡ true
     pub closed : closed_in x.sequencer.closed e ≡ Some batch
     pub unheld : get x.held slot ≡ None
     pub unrecorded : get x.synod.acceptor slot ≡ None
