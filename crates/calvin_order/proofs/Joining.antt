@@ -5,7 +5,8 @@ use Rattle.calvin_types.specs.declared.place.Slot.{Slot}
 use Rattle.calvin_types.specs.declared.place.Place.{Place}
 use Rattle.calvin_types.specs.declared.txn.Txn.{Txn}
 use Rattle.calvin_types.specs.Orders.{StandsAt, Rises}
-use Rattle.calvin_order.specs.Merged.{Batch, Assignment, joined, numbered, merged}
+use Rattle.calvin_order.specs.Configs.{unwoven, merged}
+use Rattle.calvin_order.specs.Merged.{Batch, Assignment, joined, numbered}
 use Rattle.calvin_order.proofs.Places.{before_by_number}
 
 module _ {Args : Type 0} where
@@ -29,10 +30,7 @@ module _ {Args : Type 0} where
   joined_same B C e zero same = refl
   joined_same B C e (suc g) same = λ i. joined_same B C e g (λ h less. same h (omega (arith, less))) i ++ same g (omega arith) i
 
-  pub merged_same : (parts : ℕ) (B C : Assignment Args) (e : ℕ) → ((g : ℕ) → g < parts → B (record { epoch = e; group = g }) ≡ C (record { epoch = e; group = g })) → merged parts B e ≡ merged parts C e
-  merged_same parts B C e same = ap (numbered e 0) (joined_same B C e parts same)
-
-  pub merged_rises : (parts : ℕ) (B : Assignment Args) (e : ℕ) → Rises (merged parts B e)
+  pub merged_rises : (parts : ℕ) (B : Assignment Args) (e : ℕ) → Rises (merged (unwoven parts) B e)
   merged_rises parts B e = numbered_rises e 0 (joined B e parts)
 
   module _ (B : Assignment Args) (e : ℕ) where
@@ -40,7 +38,7 @@ module _ {Args : Type 0} where
     joined_none zero none = refl
     joined_none (suc g) none = λ i. joined_none g (λ h less. none h (omega (arith, less))) i ++ none g (omega arith) i
 
-    pub length-merged : (parts : ℕ) → length (merged parts B e) ≡ length (joined B e parts)
+    pub length-merged : (parts : ℕ) → length (merged (unwoven parts) B e) ≡ length (joined B e parts)
     length-merged parts = length-numbered e 0 (joined B e parts)
 
 -- what is made of each request is made of each in the merged order
@@ -53,5 +51,5 @@ module _ {T U : Type 0} (f : T → U) where
   joined_each B e zero = refl
   joined_each B e (suc g) = map-append f (joined B e g) (B (record { epoch = e; group = g })) ∙ ap (λ ts. ts ++ map f (B (record { epoch = e; group = g }))) (joined_each B e g)
 
-  pub merged_each : (parts : ℕ) (B : Slot → List T) (e : ℕ) → map (λ p. (p.0, f p.1)) (merged parts B e) ≡ merged parts (λ slot. map f (B slot)) e
+  pub merged_each : (parts : ℕ) (B : Slot → List T) (e : ℕ) → map (λ p. (p.0, f p.1)) (merged (unwoven parts) B e) ≡ merged (unwoven parts) (λ slot. map f (B slot)) e
   merged_each parts B e = numbered_each e 0 (joined B e parts) ∙ ap (numbered e 0) (joined_each B e parts)

@@ -3,6 +3,5 @@ pub mod Joining
 pub mod Places
 pub mod Ranges
 pub mod Standing
-pub mod Stretches
 pub mod Walks
-pub mod WithoutWeave
+pub mod SameOrders

@@ -1,7 +1,8 @@
 -- What is left of an epoch's requests while they are given one by one.
 use Rattle.std.proofs.Common.{◌≡◌, ℕ, zero, suc, ◌+◌, ◌-◌, ◌<◌, List, [], ◌∷◌, ◌++◌, length, sym, ap, ◌∙◌, append_assoc, append-nil, arith}
 use Rattle.calvin_types.specs.declared.place.Slot.{Slot}
-use Rattle.calvin_order.specs.Merged.{joined, merged, numbered}
+use Rattle.calvin_order.specs.Configs.{unwoven, merged}
+use Rattle.calvin_order.specs.Merged.{joined, numbered}
 use Rattle.calvin_order.specs.Walking.{joined_from, left_of}
 
 module _ {T : Type 0} (B : Slot → List T) where
@@ -12,7 +13,7 @@ module _ {T : Type 0} (B : Slot → List T) where
       sym (append_assoc (joined B e g) (B (record { epoch = e; group = g })) (joined_from B e (suc g) k)) ∙ joined_on e (suc g) k ∙ ap (joined B e) next
 
   -- before the first group all is left
-  pub all_left : (e groups : ℕ) → left_of B (record { epoch = e; group = 0 }) groups 0 [] ≡ merged groups B e
+  pub all_left : (e groups : ℕ) → left_of B (record { epoch = e; group = 0 }) groups 0 [] ≡ merged (unwoven groups) B e
   all_left e groups =
       let all : groups - 0 ≡ groups = omega arith in
       let same : 0 + groups ≡ groups = omega arith in

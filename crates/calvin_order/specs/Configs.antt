@@ -1,8 +1,10 @@
 -- What all nodes of a store are opened with, and the order that it gives to batches (Thomson et al. 2012, section 3.1:
 -- every scheduler interleaves the batches of an epoch in one fixed way).
-use Rattle.std.specs.Prelude.{ℕ, Bool, false, zero, suc, nat_le, if◌then◌else◌, [], ◌∷◌, ◌++◌, length, Option, Some, None}
-use Rattle.calvin_types.specs.Orders.{Order}
-use Rattle.calvin_order.specs.Merged.{Batch, Assignment, joined, numbered}
+use Rattle.std.specs.Prelude.{ℕ, Bool, false, zero, suc, nat_le, if◌then◌else◌, List, [], ◌∷◌, ◌++◌, length, Option, Some, None}
+use Rattle.calvin_types.specs.declared.place.Place.{Place}
+use Rattle.calvin_types.specs.declared.place.Slot.{Slot}
+use Rattle.calvin_types.specs.Orders.{Rises}
+use Rattle.calvin_order.specs.Merged.{Assignment, joined, numbered}
 
 -- how many replicas and partitions there are, what the keepers of rows can do, and when requests join queues and batches are woven
 pub record Config : Type 0 where
@@ -17,45 +19,54 @@ pub record Config : Type 0 where
   -- the first epoch whose batches are woven, if there is one
   pub woven_from : Option ℕ
 
+-- a configuration of so many partitions in which nothing is woven; an order goes by nothing else of one (law `same_orders`)
+abbrev pub unwoven : ℕ → Config
+unwoven partitions = record { replicas = 1; partitions = partitions; points = false; cold = false; delay = 0; woven_from = None }
+
 -- the batches of this epoch are woven
 abbrev pub is_woven : Option ℕ → ℕ → Bool
 is_woven None e = false
 is_woven (Some f) e = nat_le f e
 
-module _ {Args : Type 0} where
+-- what stands in batches is requests, or requests with what else is known of each
+module _ {T : Type 0} where
   -- the request of this number in a batch, from 0, if there is one
-  abbrev pub at_number : Batch Args → ℕ → Batch Args
+  abbrev pub at_number : List T → ℕ → List T
   at_number [] n = []
   at_number (t ∷ ts) zero = t ∷ []
   at_number (t ∷ ts) (suc n) = at_number ts n
 
   -- the n-th requests of the groups below g, by ascending group
-  abbrev pub layer : Assignment Args → ℕ → ℕ → ℕ → Batch Args
+  abbrev pub layer : (Slot → List T) → ℕ → ℕ → ℕ → List T
   layer B e zero n = []
   layer B e (suc g) n = layer B e g n ++ at_number (B (record { epoch = e; group = g })) n
 
   -- the first requests of these groups, then the second ones, and so on, k times
-  abbrev pub layers : Assignment Args → ℕ → ℕ → ℕ → Batch Args
+  abbrev pub layers : (Slot → List T) → ℕ → ℕ → ℕ → List T
   layers B e g zero = []
   layers B e g (suc k) = layers B e g k ++ layer B e g k
 
   -- the batches of epoch e of the groups below g, woven: by number in the batch, then by group. None is longer than all together
-  abbrev pub woven : Assignment Args → ℕ → ℕ → Batch Args
+  abbrev pub woven : (Slot → List T) → ℕ → ℕ → List T
   woven B e g = layers B e g (length (joined B e g))
 
   -- the batches of an epoch as one: whole batches by ascending group, or woven
-  abbrev pub together : Config → Assignment Args → ℕ → Batch Args
+  abbrev pub together : Config → (Slot → List T) → ℕ → List T
   together c B e = if is_woven c.woven_from e then woven B e c.partitions else joined B e c.partitions
 
   -- one epoch: the n-th request has the place (e, n)
-  abbrev pub merged : Config → Assignment Args → ℕ → Order Args
+  abbrev pub merged : Config → (Slot → List T) → ℕ → List (Place × T)
   merged c B e = numbered e 0 (together c B e)
 
   -- n epochs from e on, one after another
-  abbrev pub stretch : Config → Assignment Args → ℕ → ℕ → Order Args
+  abbrev pub stretch : Config → (Slot → List T) → ℕ → ℕ → List (Place × T)
   stretch c B e zero = []
   stretch c B e (suc n) = merged c B e ++ stretch c B (suc e) n
 
   -- the first n epochs
-  abbrev pub order : Config → Assignment Args → ℕ → Order Args
+  abbrev pub order : Config → (Slot → List T) → ℕ → List (Place × T)
   order c B n = stretch c B 0 n
+
+-- the places of the first epochs' order rise, in whatever configuration, however many they are and whatever their batches
+abbrev pub OrdersRise : Type 0 → Type 0
+OrdersRise Args = (c : Config) (n : ℕ) (B : Assignment Args) → Rises (order c B n)

@@ -2,7 +2,8 @@
 ghost use Rattle.std.specs.Prelude.{◌≡◌, ◌+◌, ◌*◌, ◌-◌, ◌<◌, ◌≤◌, ◌↔◌, ◌++◌, [], length, max, is_none, IfOk, IsOk, IsNone, IsTrue, OnOk, OnErr, IsOkUnless, vec_len, vec_capacity, if◌then◌else◌};
 ghost use Rattle.std.specs.Option.{option_copied};
 ghost use Rattle.std.specs.FinMap as map;
-ghost use Rattle.calvin_order.specs.Merged.{joined, numbered, merged};
+ghost use Rattle.calvin_order.specs.Configs.{merged, unwoven};
+ghost use Rattle.calvin_order.specs.Merged.{joined, numbered};
 ghost use Rattle.calvin_order.specs.Merging.{batch_at, HoldsAll, without_epoch};
 
 use crate::walk::{BatchSource, EpochRequests};
@@ -135,7 +136,7 @@ impl<Args: Copy> Held<Args> {
         requires empty { out.old.items ≡ [] }
         requires few { groups ≤ MOST_PARTITIONS }
         requires room { length (joined (batch_at self.now.batches) epoch groups) ≤ vec_capacity out.old }
-        ensures { out.new.items ≡ merged groups (batch_at self.now.batches) epoch }
+        ensures { out.new.items ≡ merged (unwoven groups) (batch_at self.now.batches) epoch }
     {
         for (place, txn) in EpochRequests::new(self, epoch, groups) {
             out.push_reserved((place, *txn));

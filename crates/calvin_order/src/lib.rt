@@ -4,9 +4,9 @@
 
 mod held;
 mod merge;
-mod unwoven;
+mod same;
 mod walk;
 
 pub use merge::{Merge, orders_rise};
-pub use unwoven::unwoven_orders;
+pub use same::same_orders;
 pub use walk::{BatchSource, EpochRequests};

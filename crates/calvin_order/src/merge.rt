@@ -3,7 +3,7 @@ ghost use Rattle.std.specs.Prelude.{◌≡◌, ◌^◌, ◌<◌, ◌≤◌, ◌�
 ghost use Rattle.std.specs.Option.{option_copied};
 ghost use Rattle.std.specs.FinMap as map;
 ghost use Rattle.calvin_types.specs.Orders.{Rises};
-ghost use Rattle.calvin_order.specs.Merged.{merged, OrdersRise};
+ghost use Rattle.calvin_order.specs.Configs.{merged, unwoven, OrdersRise};
 ghost use Rattle.calvin_order.specs.Merging.{held_by, with_batch, without_epoch, IsComplete, IsReady};
 
 use crate::held::Held;
@@ -128,7 +128,7 @@ impl<Args: Copy> Merge<Args> {
     /// Refused with `NotComplete` where a group's batch isn't held for that epoch, as always once no epoch is left; else
     /// with `OutOfMemory` where a growth was refused. Batches stay held.
     pub fn take_epoch(&mut self) -> Result<Vec<(Place, Txn<Args>)>, Fault>
-        ensures merged { IfOk result (λ v. v.items ≡ merged self.old.partitions (held_by self.old) self.old.next) }
+        ensures merged { IfOk result (λ v. v.items ≡ merged (unwoven self.old.partitions) (held_by self.old) self.old.next) }
         ensures rising { IfOk result (λ v. Rises v.items) }
         ensures next { OnOk result (self.new ≡ record self.old { next = suc self.old.next; ready = 0 }) }
         ensures complete { OnOk result (IsComplete self.old) }

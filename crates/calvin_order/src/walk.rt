@@ -3,7 +3,7 @@ ghost use Rattle.std.specs.Prelude.{◌≡◌, ◌≤◌, List, length};
 ghost use Rattle.std.specs.Iterator.{at_most};
 ghost use Rattle.std.specs.Map.Iter.{TakesFirst};
 ghost use Rattle.calvin_types.specs.declared.place.Slot.{Slot as TheSlot};
-ghost use Rattle.calvin_order.specs.Merged.{merged};
+ghost use Rattle.calvin_order.specs.Configs.{merged, unwoven};
 ghost use Rattle.calvin_order.specs.Walking.{placed};
 
 use calvin_types::{MOST_PARTITIONS, MOST_REQUESTS, Place, Slot};
@@ -53,7 +53,7 @@ impl<'a, T, S: BatchSource<T>> EpochRequests<'a, T, S> {
     /// The requests of an epoch of the groups below so many.
     pub fn new(source: &'a S, epoch: u64, groups: u8) -> EpochRequests<'a, T, S>
         requires { groups ≤ MOST_PARTITIONS }
-        ensures { result ≡ merged groups (S.assignment source.now) epoch }
+        ensures { result ≡ merged (unwoven groups) (S.assignment source.now) epoch }
     {
         EpochRequests {
             source,

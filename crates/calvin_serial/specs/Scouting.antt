@@ -14,7 +14,7 @@ use Rattle.calvin_types.specs.Orders.{Order}
 use Rattle.calvin_app.specs.Rows.{Rows}
 use Rattle.calvin_app.specs.Meaning.{Meaning}
 use Rattle.calvin_app.specs.Serial.{serial}
-use Rattle.calvin_order.specs.Merged.{merged, order}
+use Rattle.calvin_order.specs.Configs.{merged, order, unwoven}
 use Rattle.calvin_recon.specs.Scouting.{found}
 use Rattle.calvin_script.specs.declared.contents.Request.{Request}
 use Rattle.calvin_script.specs.Scripts.{Contents, requests_at, batch_at}
@@ -43,13 +43,13 @@ module _ {Args Row Reply : Type 0} (m : Meaning Args Row Reply) where
   abbrev pub scouted_order : Contents Args → Rows Row → ℕ → ℕ → Result (Order Args) Fault
   scouted_order script rows e zero = Ok []
   scouted_order script rows e (suc n) = do
-    here ← scouted_epoch rows (merged script.partitions (requests_at script) e)
+    here ← scouted_epoch rows (merged (unwoven script.partitions) (requests_at script) e)
     later ← scouted_order script (serial m (map (λ p. p.1) here) rows).0 (suc e) n
     Ok (here ++ later)
 
   -- where a request of a script declares no sets it has, as it stands there, those that it needs where no row is known
   abbrev pub order_of : Contents Args → UndeclaredSets → Result (Order Args) Fault
-  order_of script First = Ok (order script.partitions (batch_at script) (length script.epochs))
+  order_of script First = Ok (order (unwoven script.partitions) (batch_at script) (length script.epochs))
   order_of script Scouted = scouted_order script empty 0 (length script.epochs)
 
   pub record RunsOn (show : Reply → List ℕ) (placed : Order Args) (rows new : Rows Row) (text longer : List ℕ) : Type 0 where

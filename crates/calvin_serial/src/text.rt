@@ -1,7 +1,7 @@
 //! The lines of a serial run.
 ghost use Rattle.std.specs.Prelude.{◌≡◌, ◌<◌, ◌++◌, OnOk, IsOkUnless, length};
 ghost use Rattle.calvin_app.specs.Serial.{answer_one, after_one};
-ghost use Rattle.calvin_order.specs.Merged.{merged};
+ghost use Rattle.calvin_order.specs.Configs.{merged, unwoven};
 ghost use Rattle.calvin_script.specs.Scripts.{contents, batch_at};
 ghost use Rattle.calvin_text.specs.Texts.{line};
 ghost use Rattle.calvin_serial.specs.Scouting.{RunsOn};
@@ -49,7 +49,7 @@ where
     A::Args: Operation,
     A::Reply: Printed,
     requires within { epoch < length script.now.epochs.items }
-    ensures ok { OnOk result (RunsOn A.meaning A.Reply.printed (merged script.now.partitions (batch_at (contents script.now)) epoch)
+    ensures ok { OnOk result (RunsOn A.meaning A.Reply.printed (merged (unwoven script.now.partitions) (batch_at (contents script.now)) epoch)
         store.old store.new text.old.items text.new.items) }
     ensures only { IsOkUnless result Fault.OutOfMemory }
 {

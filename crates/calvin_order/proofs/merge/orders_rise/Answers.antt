@@ -1,5 +1,5 @@
-use Rattle.calvin_order.proofs.Stretches.{order_rises}
+use Rattle.calvin_order.proofs.Epochs.{order_rises}
 use Rattle.calvin_order.proofs.merge.orders_rise.Goals as goal
 
 pub returns : goal.returns
-returns g c = λ parts n B. order_rises parts B n
+returns g c = λ d n B. order_rises d B n
