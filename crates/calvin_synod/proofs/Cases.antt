@@ -1,5 +1,5 @@
 -- Every case of the synod is right at every slot, in whatever world it happens.
-use Rattle.std.proofs.Common.{◌≡◌, ◌≢◌, ℕ, ◌+◌, ◌<◌, ◌≤◌, ◌^◌, Bool, true, false, true≢false, cond, [], ◌∷◌, ◌++◌, ◌⊎◌, inl, ⊎_elim, refl, sym, ap, ◌∙◌, subst, arith, Option, Some, None, List}
+use Rattle.std.proofs.Common.{◌≡◌, ◌≢◌, ℕ, ◌+◌, ◌<◌, ◌≤◌, Bool, true, false, true≢false, cond, [], ◌∷◌, ◌++◌, ◌⊎◌, inl, ⊎_elim, refl, sym, ap, ◌∙◌, subst, arith, Option, Some, None, List}
 use Rattle.std.specs.Prelude.{nat_eq, nat_lt, max, is_some}
 use Rattle.std.specs.Option.{unwrap_or}
 use Rattle.std.specs.List.{list_any, IsDistinct}
@@ -17,7 +17,7 @@ use Rattle.calvin_synod.specs.declared.message.Message.TheVariants.{Prepare, Pro
 use Rattle.calvin_synod.specs.Quorums.{IsIn, IsChosen}
 use Rattle.calvin_synod.specs.declared.attempt.Attempt.{Attempt}
 use Rattle.calvin_synod.specs.Roles.{promise_in, vote_in, promise_at, vote_at, bars_prepare, bars_accept, promised, voted, batch_of, counts, if_counts, current, with_report, is_enough, counting, sending, next_ballot, started, refused_at, proposal_cmp, Learning, voters_of, knows, completes, learned}
-use Rattle.calvin_synod.specs.Cases.{slot_of, Replica, Letters, Silent, ToOne, ToAll, Deed, Refuses, Does, prepare, accept, counted, promise, refused, accepted, handle, propose, restart, fresh}
+use Rattle.calvin_synod.specs.Cases.{slot_of, Replica, Letters, Silent, ToOne, ToAll, Deed, Refuses, Does, prepare, accept, counted, promise, refused, accepted, handle, has_round, propose, restart, fresh}
 use Rattle.calvin_types.proofs.SlotMaps.{same_slot_or_not, get_here, get_other, gone_here, gone_other}
 use Rattle.calvin_synod.proofs.Proposals.{voters_here, voters_other, no_voters_here, no_voters_other}
 use Rattle.calvin_synod.proofs.Core.{Said, Reports, Proposes, Votes, Sound, sound_at_first}
@@ -226,7 +226,7 @@ module _ {B : Type 0} {size : ℕ} {Sent : Said B → Type 0} {promises : ℕ �
 
   -- and a new attempt.
   pub propose_right : (k : Slot) (batch : B) → RightDeed size Sent slot me mine (propose me k batch mine)
-  propose_right k batch = at_test (nat_lt (max mine.proposer.used mine.proposer.seen + 1) (2 ^ 32))
+  propose_right k batch = at_test (has_round mine)
     where
       at_test : (b : Bool) → RightDeed size Sent slot me mine (cond b (Does (record mine { proposer = started me mine.proposer k batch }) (ToAll (Prepare k (next_ballot me mine.proposer))) None) (Refuses RoundsSpent))
       at_test false = tt
@@ -292,7 +292,7 @@ module _ {B : Type 0} {size : ℕ} {Sent : Said B → Type 0} {promises : ℕ �
 
 -- nor does a new attempt give any, or a restart
 pub propose_gives : {B : Type 0} (me : ℕ) (mine : Replica B) (k : Slot) (batch : B) (slot : Slot) (x : B) → Gives (propose me k batch mine) slot x → ⊥
-propose_gives me mine k batch slot x = at_test (nat_lt (max mine.proposer.used mine.proposer.seen + 1) (2 ^ 32))
+propose_gives me mine k batch slot x = at_test (has_round mine)
   where
     at_test : (b : Bool) → Gives (cond b (Does (record mine { proposer = started me mine.proposer k batch }) (ToAll (Prepare k (next_ballot me mine.proposer))) None) (Refuses RoundsSpent)) slot x → ⊥
     at_test false g = g
@@ -381,7 +381,7 @@ module _ {B : Type 0} (size me : ℕ) (mine : Replica B) where
   handle_speaks from (Accepted k ballot batch) = accepted_speaks from k ballot batch
 
 pub propose_speaks : {B : Type 0} (me : ℕ) (mine : Replica B) (k : Slot) (batch : B) → SpeaksOf me k (propose me k batch mine)
-propose_speaks {B} me mine k batch = at_test (nat_lt (max mine.proposer.used mine.proposer.seen + 1) (2 ^ 32))
+propose_speaks {B} me mine k batch = at_test (has_round mine)
   where
     at_test : (b : Bool) → SpeaksOf me k (cond b (Does (record mine { proposer = started me mine.proposer k batch }) (ToAll (Prepare k (next_ballot me mine.proposer))) None) (Refuses RoundsSpent))
     at_test false = tt

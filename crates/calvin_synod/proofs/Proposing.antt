@@ -1,5 +1,5 @@
 -- Whatever a replica proposes is its own batch, or one that was voted for: so what holds of own batches and of votes holds of all proposals.
-use Rattle.std.proofs.Common.{◌≡◌, ℕ, ◌+◌, ◌^◌, Bool, true, false, cond, List, [], ◌∷◌, ◌++◌, inl, inr, refl, sym, ap, ◌∙◌, subst, Option, Some, None}
+use Rattle.std.proofs.Common.{◌≡◌, ℕ, ◌+◌, Bool, true, false, cond, List, [], ◌∷◌, ◌++◌, inl, inr, refl, sym, ap, ◌∙◌, subst, Option, Some, None}
 use Rattle.std.specs.Prelude.{nat_lt, max}
 use Rattle.std.specs.Ordering.{is_lt}
 use Rattle.std.specs.List.{AllByRecursion}
@@ -16,7 +16,7 @@ use Rattle.calvin_synod.specs.declared.attempt.Attempt.{Attempt}
 use Rattle.calvin_synod.specs.declared.message.Message.{Message}
 use Rattle.calvin_synod.specs.declared.message.Message.TheVariants.{Prepare, Promise, Accept, Refused, Accepted}
 use Rattle.calvin_synod.specs.Roles.{higher, highest, batch_or, batch_of, current, with_report, is_enough, counting, sending, promise_at, bars_prepare, bars_accept, knows, completes, learned, next_ballot, started, refused_at}
-use Rattle.calvin_synod.specs.Cases.{slot_of, Replica, Letters, Silent, ToAll, Deed, Refuses, Does, prepare, accept, promise, refused, accepted, handle, propose}
+use Rattle.calvin_synod.specs.Cases.{slot_of, Replica, Letters, Silent, ToAll, Deed, Refuses, Does, prepare, accept, promise, refused, accepted, handle, has_round, propose}
 use Rattle.calvin_synod.proofs.Core.{Proposes}
 use Rattle.calvin_synod.proofs.Cases.{Says, current_is}
 
@@ -123,7 +123,7 @@ module _ {B : Type 0} where
     handle_good size from (Accepted k b v) heard counted = accepted_good size from k b v
 
     pub propose_good : (k : Slot) (batch : B) → Good k batch → IsGoodDeed (propose me k batch x)
-    propose_good k batch good = go (nat_lt (max x.proposer.used x.proposer.seen + 1) (2 ^ 32))
+    propose_good k batch good = go (has_round x)
       where
         go : (b : Bool) → IsGoodDeed (cond b (Does (record x { proposer = started me x.proposer k batch }) (ToAll (Prepare k (next_ballot me x.proposer))) None) (Refuses RoundsSpent))
         go true = (inserted k (record { ballot = next_ballot me x.proposer; own = batch; counted = [] }) good, λ j b v says. cc)

@@ -1,7 +1,8 @@
 //! The proposer of one replica: it begins ballots, and has batches accepted.
-ghost use Rattle.std.specs.Prelude.{◌≡◌, ◌↔◌, ◌⊎◌, ◌+◌, ◌^◌, ◌≤◌, ◌<◌, true, false, max, Some, None, IfOk, IfErr, IsOk, OnOk, OnErr, IsErrOf, IsOkUnless, IsSome, []};
+ghost use Rattle.std.specs.Prelude.{◌≡◌, ◌↔◌, ◌⊎◌, ◌+◌, ◌≤◌, ◌<◌, true, false, max, Some, None, IfOk, IfErr, IsOk, OnOk, OnErr, IsErrOf, IsOkUnless, IsSome, []};
 ghost use Rattle.std.specs.Option.{option_copied, ForSome};
 ghost use Rattle.std.specs.FinMap as map;
+ghost use Rattle.calvin_types.specs.declared.limits.TheConstants.{MOST_ROUNDS};
 ghost use Rattle.calvin_synod.specs.Roles as roles;
 
 use crate::attempt::{Attempt, Report, Reports};
@@ -69,7 +70,7 @@ impl<B: Drop> Proposer<B> {
     /// round used and the greatest seen in a refusal. Refused with `RoundsSpent` where that would be above 2^32 - 1.
     pub fn next_ballot(&self) -> Result<Ballot, Fault>
         ensures ballot { IfOk result (λ b. b ≡ roles.next_ballot self.now.replica self.now.proposing) }
-        ensures spent { IsErrOf result Fault.RoundsSpent ↔ (2 ^ 32 ≤ max self.now.proposing.used self.now.proposing.seen + 1) }
+        ensures spent { IsErrOf result Fault.RoundsSpent ↔ (MOST_ROUNDS ≤ max self.now.proposing.used self.now.proposing.seen + 1) }
         ensures only { IsOkUnless result Fault.RoundsSpent }
     {
         let greatest = if self.used < self.seen {
@@ -92,7 +93,7 @@ impl<B: Drop> Proposer<B> {
     pub fn start(&mut self, slot: Slot, value: B) -> Result<Ballot, Fault>
         ensures ballot { IfOk result (λ b. b ≡ roles.next_ballot self.old.replica self.old.proposing) }
         ensures started { OnOk result (self.new ≡ record self.old { proposing = roles.started self.old.replica self.old.proposing slot value; ready = false }) }
-        ensures spent { IsErrOf result Fault.RoundsSpent ↔ (2 ^ 32 ≤ max self.old.proposing.used self.old.proposing.seen + 1) }
+        ensures spent { IsErrOf result Fault.RoundsSpent ↔ (MOST_ROUNDS ≤ max self.old.proposing.used self.old.proposing.seen + 1) }
         ensures only { IfErr result (λ fault. (fault ≡ Fault.RoundsSpent) ⊎ (fault ≡ Fault.OutOfMemory)) }
         ensures err { OnErr result (self.new ≡ self.old) }
         ensures reserved { self.old.ready ≡ true → IsOkUnless result Fault.RoundsSpent }
