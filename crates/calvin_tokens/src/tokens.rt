@@ -138,22 +138,12 @@ pub fn closes_array(reader: &mut Reader<'_>) -> Option<()>
     if ends_array(reader) { Some(()) } else { None }
 }
 
-/// Whether two texts are one. Beside a name that stands in the code this becomes few comparisons.
+/// Whether two texts are one.
 #[inline(always)]
 pub fn is_same(text: &str, other: &str) -> bool
     ensures { IsTrue result → text.now ≡ other.now }
 {
-    let (text, other) = (text.as_bytes(), other.as_bytes());
-    if text.len() != other.len() {
-        return false;
-    }
-    let mut same = true;
-    let mut i = other.len();
-    while i > 0 {
-        i -= 1;
-        same = (other[i] == text[i]) & same;
-    }
-    same
+    text == other
 }
 
 /// A string, where it is next.

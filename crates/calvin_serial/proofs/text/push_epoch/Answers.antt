@@ -37,11 +37,9 @@ loop-place-preserved g c =
     let order = map placed_txn c.loop-place.place-iterator in
     let rest = map placed_txn c.next.new.self in
     let here = ap (map placed_txn) c.in-Some.ensures.steps in
-    let pushed = c.in_ok-push_request.ensures in
-    let new = c.push_request.new in
-    let rows_are = pushed.rows ∙ ap (λ (u : Txn g.row.A-Args.Denot). after_one m u c.loop-place.store) c.put_into.ensures in
-    let more = pushed.line ∙ ap (λ (u : Txn g.row.A-Args.Denot). c.loop-place.text.items ++ line show c.in-Some.place u.id (answer_one m u c.loop-place.store)) c.put_into.ensures in
+    let pushed = c.in_ok-push_kept.ensures in
+    let new = c.push_kept.new in
     record {
-      text = one_line m show c.in-Some.place t order rest here c.loop-place.store new.store rows_are c.loop-place.text.items new.text.items _ more c.loop-place.invariant.text;
-      rows = one_row m show c.in-Some.place t order rest here c.loop-place.store new.store rows_are _ c.loop-place.invariant.rows;
+      text = one_line m show c.in-Some.place t order rest here c.loop-place.store new.store pushed.rows c.loop-place.text.items new.text.items _ pushed.line c.loop-place.invariant.text;
+      rows = one_row m show c.in-Some.place t order rest here c.loop-place.store new.store pushed.rows _ c.loop-place.invariant.rows;
     }
