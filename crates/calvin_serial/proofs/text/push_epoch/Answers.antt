@@ -1,9 +1,8 @@
 use Rattle.std.proofs.Common.{◌++◌, sym, ap, ◌∙◌, map, vec_len, append-nil, arith}
 use Rattle.std.proofs.lemmas.Bool.{eqb-true}
-use Rattle.calvin_types.specs.declared.txn.Txn.{Txn}
-use Rattle.calvin_app.specs.Serial.{serial, after_one, answer_one}
+use Rattle.calvin_app.specs.Serial.{serial}
 use Rattle.calvin_script.specs.Scripts.{contents}
-use Rattle.calvin_text.specs.Texts.{line, lines}
+use Rattle.calvin_text.specs.Texts.{lines}
 use Rattle.calvin_serial.proofs.Blanks.{none_listed}
 use Rattle.calvin_serial.proofs.Requests.{placed_txn, txns_merged}
 use Rattle.calvin_serial.proofs.Runs.{one_line, one_row}
