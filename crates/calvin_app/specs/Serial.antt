@@ -1,5 +1,6 @@
 -- Requests run one at a time on one undivided map (Thomson et al. 2012, section 3.2: what is run is equivalent to the serial
 -- run in the agreed order; section 3.2.1: a request whose declared sets turn out stale is not run).
+--     nameless args sets      a request of these arguments and sets, for what comes of it: its name doesn't count there
 --     is_current m t v      whether the declared sets of t are those that it needs on the view v
 --     answer_on m t v, writes_on m t v      what the request t is answered, and what it writes, on its view
 --     answer_one m t rows, after_one m t rows      one request: its answer, and the rows after it
@@ -9,6 +10,7 @@
 use Rattle.std.specs.Prelude.{Bool, if◌then◌else◌, List, [], ◌∷◌, map}
 use Rattle.std.specs.List.{zip}
 use Rattle.calvin_types.specs.declared.key.Key.{Key}
+use Rattle.calvin_types.specs.declared.key_set.Sets.{Sets}
 use Rattle.calvin_types.specs.declared.place.Place.{Place}
 use Rattle.calvin_types.specs.declared.txn.Txn.{Txn}
 use Rattle.calvin_types.specs.SameKeys.{same_sets}
@@ -17,6 +19,9 @@ use Rattle.calvin_app.specs.declared.answer.Answer.{Answer}
 use Rattle.calvin_app.specs.declared.answer.Answer.TheVariants as answer
 use Rattle.calvin_app.specs.Rows.{Rows, view, overwritten}
 use Rattle.calvin_app.specs.Meaning.{Meaning}
+
+abbrev pub nameless : {Args : Type 0} → Args → Sets → Txn Args
+nameless args sets = record { id = record { client = 0; number = 0 }; attempt = 1; args = args; sets = sets }
 
 module _ {Args Row Reply : Type 0} (m : Meaning Args Row Reply) where
   abbrev pub is_current : Txn Args → Rows Row → Bool

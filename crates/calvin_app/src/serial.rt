@@ -4,14 +4,14 @@ ghost use Rattle.calvin_app.specs.declared.answer.Answer.TheVariants.{Changed};
 ghost use Rattle.std.specs.Prelude.{◌≡◌, ◌≢◌, IfOk, OnOk, OnErr, IsOkUnless, [], IsOk};
 ghost use Rattle.std.specs.FinMap as map;
 ghost use Rattle.calvin_app.specs.Rows.{view};
-ghost use Rattle.calvin_app.specs.Serial.{answer_one, after_one, writes_on};
+ghost use Rattle.calvin_app.specs.Serial.{nameless, answer_one, after_one, writes_on};
 
 use crate::answer::Answer;
 use crate::app::App;
 use crate::table::Table;
 use crate::view::View;
 use crate::writes::Writes;
-use calvin_types::{Fault, Txn};
+use calvin_types::{Fault, Sets, Txn};
 use std::alloc::Global;
 use std::marker::Model;
 
@@ -93,14 +93,37 @@ impl<A: App> Serial<A> {
         ensures only { IsOkUnless result Fault.OutOfMemory }
         ensures succeeds { writes_on A.meaning txn.now (view self.old txn.now.sets.reads) ≡ [] → IsOk result }
     {
+        self.apply_parts(&txn.args, &txn.sets, seen, answer, writes)
+    }
+
+    /// Runs one request as `apply_into` does, of which the arguments and the sets are given, wherever they lie: what comes
+    /// of it doesn't depend on its name.
+    #[tactic(auto, unfolding(crate::specs::Serial::answer_on, crate::specs::Serial::writes_on))]
+    pub fn apply_parts(
+        &mut self,
+        args: &A::Args,
+        sets: &Sets,
+        seen: &mut View<A::Row>,
+        answer: &mut Answer<A::Reply>,
+        writes: &mut Writes<A::Row>,
+    ) -> Result<(), Fault>
+        ensures answer { OnOk result (answer.new ≡ answer_one A.meaning (nameless args.now sets.now) self.old) }
+        ensures ok { OnOk result (self.new ≡ after_one A.meaning (nameless args.now sets.now) self.old) }
+        ensures err { OnErr result (self.new ≡ self.old) }
+
+        // A request with the sets that it needs of all rows is run.
+        ensures fresh { A.meaning.needs args.now self.old ≡ sets.now → OnOk result (answer.new ≢ Changed) }
+        ensures only { IsOkUnless result Fault.OutOfMemory }
+        ensures succeeds { writes_on A.meaning (nameless args.now sets.now) (view self.old sets.now.reads) ≡ [] → IsOk result }
+    {
         seen.clear();
-        self.rows.look_up(&txn.sets.reads, seen);
-        if !self.app.needs_only(&txn.args, seen, &txn.sets) {
+        self.rows.look_up(&sets.reads, seen);
+        if !self.app.needs_only(args, seen, sets) {
             tell_changed(answer);
             return Ok(());
         }
         writes.clear();
-        self.app.run_into(&txn.args, seen, answer, writes);
+        self.app.run_into(args, seen, answer, writes);
         self.rows.overwrite(writes)
     }
 }

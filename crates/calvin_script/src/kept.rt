@@ -71,21 +71,25 @@ impl<Op: Operation> Kept<Op> {
         self.has_key() && 1 <= self.attempt && self.attempt <= MOST_ATTEMPTS
     }
 
-    /// Puts the request with its sets in place of one that is there.
-    pub fn put_into(&self, txn: &mut Txn<Op>)
-        ensures { txn.new ≡ self.now.txn }
+    /// Its operation.
+    pub fn args(&self) -> &Op
+        ensures { result.now ≡ self.now.txn.args }
     {
-        txn.id = self.id;
-        txn.attempt = self.attempt;
-        txn.args = self.args;
+        &self.args
+    }
+
+    /// Puts its sets in place of those that are there.
+    pub fn put_sets(&self, sets: &mut Sets)
+        ensures { sets.new ≡ self.now.txn.sets }
+    {
         match &self.declared {
-            Some(sets) => txn.sets = **sets,
+            Some(declared) => *sets = **declared,
             None => {
-                txn.sets = Sets {
+                *sets = Sets {
                     reads: KeySet::new(),
                     writes: KeySet::new(),
                 };
-                self.args.add_first_sets(&mut txn.sets);
+                self.args.add_first_sets(sets);
             }
         }
     }
@@ -94,24 +98,16 @@ impl<Op: Operation> Kept<Op> {
     pub fn txn(&self) -> Txn<Op>
         ensures { result ≡ self.now.txn }
     {
-        let mut txn = blank_txn();
-        self.put_into(&mut txn);
-        txn
-    }
-}
-
-/// Any request: another one is put in its place.
-pub fn blank_txn<Op: Operation>() -> Txn<Op> {
-    Txn {
-        id: RequestId {
-            client: 0,
-            number: 0,
-        },
-        attempt: 1,
-        args: Op::blank(),
-        sets: Sets {
+        let mut sets = Sets {
             reads: KeySet::new(),
             writes: KeySet::new(),
-        },
+        };
+        self.put_sets(&mut sets);
+        Txn {
+            id: self.id,
+            attempt: self.attempt,
+            args: self.args,
+            sets,
+        }
     }
 }

@@ -17,7 +17,7 @@ mod script;
 mod stock;
 
 pub use contents::{Epoch, GroupBatch, Request, Script};
-pub use kept::{Kept, blank_txn};
+pub use kept::Kept;
 pub use key_list::{KeyForm, WholeKey, read_key_set};
 pub use kv::RowNumber;
 pub use operation::Operation;

@@ -117,6 +117,12 @@ impl Operation for StockRequest {
         self.add_first_needs(sets);
     }
 
+    // Each operation has an item or a customer.
+    #[tactic(auto, using(crate::proofs::StockKeys::first_key))]
+    fn has_first_key(&self) -> bool {
+        true
+    }
+
     fn complete(&self, _sets: &mut Sets) -> Option<()> {
         Some(())
     }

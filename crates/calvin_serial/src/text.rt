@@ -1,6 +1,6 @@
 //! The lines of a serial run.
 ghost use Rattle.std.specs.Prelude.{◌≡◌, ◌<◌, ◌++◌, OnOk, IsOkUnless, length};
-ghost use Rattle.calvin_app.specs.Serial.{answer_one, after_one};
+ghost use Rattle.calvin_app.specs.Serial.{nameless, answer_one, after_one};
 ghost use Rattle.calvin_order.specs.Configs.{merged, unwoven};
 ghost use Rattle.calvin_script.specs.Scripts.{contents, batch_at};
 ghost use Rattle.calvin_text.specs.Texts.{line};
@@ -9,11 +9,35 @@ ghost use Rattle.calvin_serial.specs.Scouting.{RunsOn};
 use crate::listed::ListedBatches;
 use calvin_app::{Answer, App, Serial, View, Writes};
 use calvin_order::EpochRequests;
-use calvin_script::{Kept, Operation, Script, blank_txn};
+use calvin_script::{Kept, Operation, Script};
 use calvin_text::{Printed, push_line};
-use calvin_types::{Fault, Place, Txn};
+use calvin_types::{Fault, KeySet, Place, RequestId, Sets, Txn};
+
+/// Runs one request, of which the name, the arguments and the sets are given, and adds its line.
+fn push_parts<A: App>(
+    store: &mut Serial<A>,
+    place: Place,
+    id: RequestId,
+    args: &A::Args,
+    sets: &Sets,
+    seen: &mut View<A::Row>,
+    answer: &mut Answer<A::Reply>,
+    writes: &mut Writes<A::Row>,
+    text: &mut Vec<u8>,
+) -> Result<(), Fault>
+where
+    A::Reply: Printed,
+    ensures line { OnOk result (text.new.items ≡ text.old.items ++ line A.Reply.printed place id (answer_one A.meaning (nameless args.now sets.now) store.old)) }
+    ensures rows { OnOk result (store.new ≡ after_one A.meaning (nameless args.now sets.now) store.old) }
+    ensures only { IsOkUnless result Fault.OutOfMemory }
+{
+    store.apply_parts(args, sets, seen, answer, writes)?;
+    push_line(text, place, id, answer)?;
+    Ok(())
+}
 
 /// Runs one request, and adds its line.
+#[tactic(auto, unfolding(calvin_app::specs::Serial::answer_on, calvin_app::specs::Serial::writes_on))]
 pub(crate) fn push_request<A: App>(
     store: &mut Serial<A>,
     place: Place,
@@ -29,13 +53,46 @@ where
     ensures rows { OnOk result (store.new ≡ after_one A.meaning txn.now store.old) }
     ensures only { IsOkUnless result Fault.OutOfMemory }
 {
-    store.apply_into(txn, seen, answer, writes)?;
-    push_line(text, place, txn.id, answer)?;
-    Ok(())
+    push_parts(
+        store, place, txn.id, &txn.args, &txn.sets, seen, answer, writes, text,
+    )
 }
 
-/// Runs the requests of an epoch of a script, as they stand there, and adds a line for each. One view, one answer and
-/// one place for writes serve all requests.
+/// Runs one request of a script where it stands, with its sets in place of those that are there, and adds its line.
+#[tactic(auto, unfolding(calvin_app::specs::Serial::answer_on, calvin_app::specs::Serial::writes_on))]
+fn push_kept<A: App>(
+    store: &mut Serial<A>,
+    place: Place,
+    kept: &Kept<A::Args>,
+    sets: &mut Sets,
+    seen: &mut View<A::Row>,
+    answer: &mut Answer<A::Reply>,
+    writes: &mut Writes<A::Row>,
+    text: &mut Vec<u8>,
+) -> Result<(), Fault>
+where
+    A::Args: Operation,
+    A::Reply: Printed,
+    ensures line { OnOk result (text.new.items ≡ text.old.items ++ line A.Reply.printed place kept.now.txn.id (answer_one A.meaning kept.now.txn store.old)) }
+    ensures rows { OnOk result (store.new ≡ after_one A.meaning kept.now.txn store.old) }
+    ensures only { IsOkUnless result Fault.OutOfMemory }
+{
+    kept.put_sets(sets);
+    push_parts(
+        store,
+        place,
+        kept.id(),
+        kept.args(),
+        sets,
+        seen,
+        answer,
+        writes,
+        text,
+    )
+}
+
+/// Runs the requests of an epoch of a script, as they stand there, and adds a line for each. One place for sets, one view,
+/// one answer and one place for writes serve all requests.
 pub(crate) fn push_epoch<A: App>(
     store: &mut Serial<A>,
     script: &Script<Kept<A::Args>>,
@@ -57,10 +114,12 @@ where
         return Ok(());
     }
     let listed = ListedBatches { script };
-    let mut txn = blank_txn();
+    let mut sets = Sets {
+        reads: KeySet::new(),
+        writes: KeySet::new(),
+    };
     for (place, kept) in EpochRequests::new(&listed, epoch as u64, script.partitions) {
-        kept.put_into(&mut txn);
-        push_request(store, place, &txn, seen, answer, writes, text)?;
+        push_kept(store, place, kept, &mut sets, seen, answer, writes, text)?;
     }
     Ok(())
 }

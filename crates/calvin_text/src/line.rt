@@ -1,8 +1,8 @@
 //! The lines of answers.
-ghost use Rattle.std.specs.Prelude.{◌≡◌, ◌++◌, OnOk};
+ghost use Rattle.std.specs.Prelude.{◌≡◌, ◌++◌, OnOk, codes};
 ghost use Rattle.calvin_text.specs.Texts.{place_text, id_text, answer_text, line, finished};
 
-use crate::printed::{Printed, push_number};
+use crate::printed::{Printed, SHORT, push_number, put_short};
 use calvin_app::Answer;
 use calvin_types::{Place, RequestId};
 use std::alloc::AllocError;
@@ -25,6 +25,30 @@ fn push_id(text: &mut Vec<u8>, id: RequestId) -> Result<(), AllocError>
     push_number(text, id.number as u64)
 }
 
+/// Adds a place and a name, each with a space behind it. Where no number has more than five digits there is one test for
+/// room.
+#[inline(always)]
+fn push_head(text: &mut Vec<u8>, place: Place, id: RequestId) -> Result<(), AllocError>
+    ensures { OnOk result (text.new.items ≡ text.old.items ++ place_text place ++ codes " " ++ id_text id ++ codes " ") }
+{
+    if place.epoch < SHORT as u64 && place.n < SHORT && id.client < SHORT && id.number < SHORT {
+        text.reserve(24)?;
+        put_short(text, place.epoch as u32);
+        text.push_reserved(b'.');
+        put_short(text, place.n);
+        text.push_reserved(b' ');
+        put_short(text, id.client);
+        text.push_reserved(b':');
+        put_short(text, id.number);
+        text.push_reserved(b' ');
+        return Ok(());
+    }
+    push_place(text, place)?;
+    text.extend_from_slice(b" ")?;
+    push_id(text, id)?;
+    text.extend_from_slice(b" ")
+}
+
 /// Adds an answer.
 fn push_answer<R: Printed>(text: &mut Vec<u8>, answer: &Answer<R>) -> Result<(), AllocError>
     ensures { OnOk result (text.new.items ≡ text.old.items ++ answer_text R.printed answer.now) }
@@ -44,10 +68,7 @@ pub fn push_line<R: Printed>(
 ) -> Result<(), AllocError>
     ensures { OnOk result (text.new.items ≡ text.old.items ++ line R.printed place id answer.now) }
 {
-    push_place(text, place)?;
-    text.extend_from_slice(b" ")?;
-    push_id(text, id)?;
-    text.extend_from_slice(b" ")?;
+    push_head(text, place, id)?;
     push_answer(text, answer)?;
     text.extend_from_slice(b"\n")
 }

@@ -1,5 +1,5 @@
 //! What is written of an answer.
-ghost use Rattle.std.specs.Prelude.{◌≡◌, ◌++◌, ℕ, List, OnOk, codes, decimal};
+ghost use Rattle.std.specs.Prelude.{◌≡◌, ◌≤◌, ◌<◌, ◌+◌, ◌++◌, ℕ, List, OnOk, codes, decimal, vec_len, vec_capacity};
 ghost use Rattle.calvin_text.specs.Texts.{value_text, values_text, kv_text, stock_text};
 
 use calvin_app::KvReply;
@@ -7,6 +7,9 @@ use calvin_stock::StockReply;
 use calvin_types::Few;
 use itoa::Buffer;
 use std::alloc::AllocError;
+
+/// The least number that has more than five digits.
+pub(crate) const SHORT: u32 = 100_000;
 
 /// What has a text. Where memory is wanting, a beginning of it may have been added.
 pub trait Printed {
@@ -18,25 +21,62 @@ pub trait Printed {
         ensures { OnOk result (text.new.items ≡ text.old.items ++ printed self.now) };
 }
 
+/// A digit as it is written.
+#[inline(always)]
+fn digit(n: u32) -> u8
+    requires { n < 10 }
+    ensures { result ≡ 48 + n }
+{
+    b'0' + n as u8
+}
+
+/// Adds a number of at most five digits, for which there is room.
+#[inline(always)]
+#[tactic(auto, using(crate::proofs::ShortNumbers::one_digit, crate::proofs::ShortNumbers::two_digits, crate::proofs::ShortNumbers::three_digits, crate::proofs::ShortNumbers::four_digits, crate::proofs::ShortNumbers::five_digits))]
+pub(crate) fn put_short(text: &mut Vec<u8>, n: u32)
+    requires short { n < SHORT }
+    requires room { vec_len text.old + 5 ≤ vec_capacity text.old }
+    ensures number { text.new.items ≡ text.old.items ++ decimal n }
+    ensures len { vec_len text.new ≤ vec_len text.old + 5 }
+    ensures room { vec_capacity text.new ≡ vec_capacity text.old }
+{
+    if n < 10 {
+        text.push_reserved(digit(n));
+        return;
+    }
+    if n < 100 {
+        text.push_reserved(digit(n / 10));
+        text.push_reserved(digit(n % 10));
+        return;
+    }
+    if n < 1000 {
+        text.push_reserved(digit(n / 100));
+        text.push_reserved(digit(n / 10 % 10));
+        text.push_reserved(digit(n % 10));
+        return;
+    }
+    if n < 10_000 {
+        text.push_reserved(digit(n / 1000));
+        text.push_reserved(digit(n / 100 % 10));
+        text.push_reserved(digit(n / 10 % 10));
+        text.push_reserved(digit(n % 10));
+        return;
+    }
+    text.push_reserved(digit(n / 10_000));
+    text.push_reserved(digit(n / 1000 % 10));
+    text.push_reserved(digit(n / 100 % 10));
+    text.push_reserved(digit(n / 10 % 10));
+    text.push_reserved(digit(n % 10));
+}
+
 /// Adds a number. Most have few digits, and these are put there without a text of their own.
 #[inline(always)]
-#[tactic(auto, using(crate::proofs::ShortNumbers::two_digits, crate::proofs::ShortNumbers::three_digits))]
 pub(crate) fn push_number(text: &mut Vec<u8>, n: u64) -> Result<(), AllocError>
     ensures { OnOk result (text.new.items ≡ text.old.items ++ decimal n) }
 {
-    if n < 10 {
-        text.push(b'0' + n as u8)?;
-        return Ok(());
-    }
-    if n < 100 {
-        text.push(b'0' + (n / 10) as u8)?;
-        text.push(b'0' + (n % 10) as u8)?;
-        return Ok(());
-    }
-    if n < 1000 {
-        text.push(b'0' + (n / 100) as u8)?;
-        text.push(b'0' + (n / 10 % 10) as u8)?;
-        text.push(b'0' + (n % 10) as u8)?;
+    if n < SHORT as u64 {
+        text.reserve(5)?;
+        put_short(text, n as u32);
         return Ok(());
     }
     let mut buffer = Buffer::new();

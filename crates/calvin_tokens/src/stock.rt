@@ -1,5 +1,6 @@
 //! The operations of the application Stock.
-ghost use Rattle.std.specs.Prelude.{◌≤◌, length, IfSome};
+ghost use Rattle.std.specs.Prelude.{◌≡◌, ◌≤◌, length, IfSome};
+ghost use Rattle.calvin_stock.specs.declared.request.StockRequest.TheVariants.{AddItem, Restock, Open, PayIn, Order as Ordering, Settle, Balance};
 ghost use Rattle.calvin_script.specs.StockOperations.{line, lines, order};
 ghost use Rattle.calvin_tokens.specs.Spelled.{Spells, SpellsBehind};
 
@@ -53,35 +54,86 @@ fn order_at(reader: &mut Reader<'_>) -> Option<Order>
     Some(order)
 }
 
+// Each operation is made in a function of its own: one function for all would clear room for all of them for each.
+
+/// A new item.
+fn item_of(item: u64, pieces: u64, price: u64) -> StockRequest
+    ensures { result ≡ AddItem item pieces price }
+{
+    StockRequest::AddItem {
+        item,
+        pieces,
+        price,
+    }
+}
+
+/// More pieces of an item.
+fn restock_of(item: u64, pieces: u64) -> StockRequest
+    ensures { result ≡ Restock item pieces }
+{
+    StockRequest::Restock { item, pieces }
+}
+
+/// A new customer.
+fn customer_of(customer: u64) -> StockRequest
+    ensures { result ≡ Open customer }
+{
+    StockRequest::Open { customer }
+}
+
+/// A payment.
+fn payment_of(customer: u64, cents: u64) -> StockRequest
+    ensures { result ≡ PayIn customer cents }
+{
+    StockRequest::PayIn { customer, cents }
+}
+
+/// The order itself.
+fn placing_of(order: Order) -> StockRequest
+    ensures { result ≡ Ordering order }
+{
+    StockRequest::Order(order)
+}
+
+/// A settlement.
+fn settlement_of(customer: u64) -> StockRequest
+    ensures { result ≡ Settle customer }
+{
+    StockRequest::Settle { customer }
+}
+
+/// The question for a balance.
+fn balance_of(customer: u64) -> StockRequest
+    ensures { result ≡ Balance customer }
+{
+    StockRequest::Balance { customer }
+}
+
 impl OperationTokens for StockRequest {
     fn read_tokens(&mut self, reader: &mut Reader<'_>) -> Option<()> {
         opens_array(reader)?;
         let name = string_at(reader)?;
         if is_same(name, "additem") {
             let (item, pieces, price) = three_numbers(reader)?;
-            *self = StockRequest::AddItem {
-                item,
-                pieces,
-                price,
-            };
+            *self = item_of(item, pieces, price);
         } else if is_same(name, "restock") {
             let (item, pieces) = two_numbers(reader)?;
-            *self = StockRequest::Restock { item, pieces };
+            *self = restock_of(item, pieces);
         } else if is_same(name, "open") {
             let customer = one_number(reader)?;
-            *self = StockRequest::Open { customer };
+            *self = customer_of(customer);
         } else if is_same(name, "payin") {
             let (customer, cents) = two_numbers(reader)?;
-            *self = StockRequest::PayIn { customer, cents };
+            *self = payment_of(customer, cents);
         } else if is_same(name, "order") {
             let order = order_at(reader)?;
-            *self = StockRequest::Order(order);
+            *self = placing_of(order);
         } else if is_same(name, "settle") {
             let customer = one_number(reader)?;
-            *self = StockRequest::Settle { customer };
+            *self = settlement_of(customer);
         } else if is_same(name, "balance") {
             let customer = one_number(reader)?;
-            *self = StockRequest::Balance { customer };
+            *self = balance_of(customer);
         } else {
             return None;
         }

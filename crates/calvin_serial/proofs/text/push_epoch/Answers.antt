@@ -1,9 +1,8 @@
 use Rattle.std.proofs.Common.{◌++◌, sym, ap, ◌∙◌, map, vec_len, append-nil, arith}
 use Rattle.std.proofs.lemmas.Bool.{eqb-true}
-use Rattle.calvin_types.specs.declared.txn.Txn.{Txn}
-use Rattle.calvin_app.specs.Serial.{serial, after_one, answer_one}
+use Rattle.calvin_app.specs.Serial.{serial}
 use Rattle.calvin_script.specs.Scripts.{contents}
-use Rattle.calvin_text.specs.Texts.{line, lines}
+use Rattle.calvin_text.specs.Texts.{lines}
 use Rattle.calvin_serial.proofs.Blanks.{none_listed}
 use Rattle.calvin_serial.proofs.Requests.{placed_txn, txns_merged}
 use Rattle.calvin_serial.proofs.Runs.{one_line, one_row}
@@ -37,11 +36,9 @@ loop-place-preserved g c =
     let order = map placed_txn c.loop-place.place-iterator in
     let rest = map placed_txn c.next.new.self in
     let here = ap (map placed_txn) c.in-Some.ensures.steps in
-    let pushed = c.in_ok-push_request.ensures in
-    let new = c.push_request.new in
-    let rows_are = pushed.rows ∙ ap (λ (u : Txn g.row.A-Args.Denot). after_one m u c.loop-place.store) c.put_into.ensures in
-    let more = pushed.line ∙ ap (λ (u : Txn g.row.A-Args.Denot). c.loop-place.text.items ++ line show c.in-Some.place u.id (answer_one m u c.loop-place.store)) c.put_into.ensures in
+    let pushed = c.in_ok-push_kept.ensures in
+    let new = c.push_kept.new in
     record {
-      text = one_line m show c.in-Some.place t order rest here c.loop-place.store new.store rows_are c.loop-place.text.items new.text.items _ more c.loop-place.invariant.text;
-      rows = one_row m show c.in-Some.place t order rest here c.loop-place.store new.store rows_are _ c.loop-place.invariant.rows;
+      text = one_line m show c.in-Some.place t order rest here c.loop-place.store new.store pushed.rows c.loop-place.text.items new.text.items _ pushed.line c.loop-place.invariant.text;
+      rows = one_row m show c.in-Some.place t order rest here c.loop-place.store new.store pushed.rows _ c.loop-place.invariant.rows;
     }

@@ -8,8 +8,8 @@ use Rattle.calvin_tokens.proofs.kv.KvRequestOperationTokens.read_tokens.Goals as
 
 pub returns-in_ok-id : goal.returns-in_ok-id
 returns-in_ok-id c =
-    named_spelled kv_operation two_numbers (λ n. Put n.0 n.1) (codes "put") put_is 0 (c.in_ok-id.id, c.in_ok-id.number) c.in_ok-name.name.now c.args.reader.now c.opens_array.new.reader c.string_at.new.reader c.two_numbers.new.reader
-    (omega arith) c.in_ok-opens_array.ensures c.in_ok-name.ensures (c.is_same.ensures c.if-is_same.true) c.in_ok-id.ensures
+    rw c.put_of.ensures (named_spelled kv_operation two_numbers (λ n. Put n.0 n.1) (codes "put") put_is 0 (c.in_ok-id.id, c.in_ok-id.number) c.in_ok-name.name.now c.args.reader.now c.opens_array.new.reader c.string_at.new.reader c.two_numbers.new.reader
+    (omega arith) c.in_ok-opens_array.ensures c.in_ok-name.ensures (c.is_same.ensures c.if-is_same.true) c.in_ok-id.ensures)
 
 pub returns-in_ok-closes_array : goal.returns-in_ok-closes_array
 returns-in_ok-closes_array c =
@@ -18,15 +18,15 @@ returns-in_ok-closes_array c =
 
 pub returns-in_ok-id-2 : goal.returns-in_ok-id-2
 returns-in_ok-id-2 c =
-    named_spelled kv_operation two_numbers (λ n. Add n.0 n.1) (codes "add") add_is 0 (c.in_ok-id-2.id, c.in_ok-id-2.amount) c.in_ok-name.name.now c.args.reader.now c.opens_array.new.reader c.string_at.new.reader c.two_numbers-then-is_same-3.new.reader
-    (omega arith) c.in_ok-opens_array.ensures c.in_ok-name.ensures (c.is_same-else-is_same-2.ensures c.if-is_same-3.true) c.in_ok-id-2.ensures
+    rw c.add_of.ensures (named_spelled kv_operation two_numbers (λ n. Add n.0 n.1) (codes "add") add_is 0 (c.in_ok-id-2.id, c.in_ok-id-2.amount) c.in_ok-name.name.now c.args.reader.now c.opens_array.new.reader c.string_at.new.reader c.two_numbers-then-is_same-3.new.reader
+    (omega arith) c.in_ok-opens_array.ensures c.in_ok-name.ensures (c.is_same-else-is_same-2.ensures c.if-is_same-3.true) c.in_ok-id-2.ensures)
 
 pub returns-in_ok-from : goal.returns-in_ok-from
 returns-in_ok-from c =
-    named_spelled kv_operation three_numbers (λ n. Move n.0 n.1 n.2) (codes "move") move_is 0 (c.in_ok-from.from, c.in_ok-from.to, c.in_ok-from.amount) c.in_ok-name.name.now c.args.reader.now c.opens_array.new.reader c.string_at.new.reader c.three_numbers.new.reader
-    (omega arith) c.in_ok-opens_array.ensures c.in_ok-name.ensures (c.is_same-else-is_same-3.ensures c.if-is_same-4.true) c.in_ok-from.ensures
+    rw c.move_of.ensures (named_spelled kv_operation three_numbers (λ n. Move n.0 n.1 n.2) (codes "move") move_is 0 (c.in_ok-from.from, c.in_ok-from.to, c.in_ok-from.amount) c.in_ok-name.name.now c.args.reader.now c.opens_array.new.reader c.string_at.new.reader c.three_numbers.new.reader
+    (omega arith) c.in_ok-opens_array.ensures c.in_ok-name.ensures (c.is_same-else-is_same-3.ensures c.if-is_same-4.true) c.in_ok-from.ensures)
 
 pub returns-in_ok-followed : goal.returns-in_ok-followed
 returns-in_ok-followed c =
-    named_spelled kv_operation one_number Follow (codes "follow") follow_is 0 c.in_ok-followed.followed c.in_ok-name.name.now c.args.reader.now c.opens_array.new.reader c.string_at.new.reader c.one_number.new.reader
-    (omega arith) c.in_ok-opens_array.ensures c.in_ok-name.ensures (c.is_same-else-is_same-4.ensures c.if-is_same-5.true) c.in_ok-followed.ensures
+    rw c.follow_of.ensures (named_spelled kv_operation one_number Follow (codes "follow") follow_is 0 c.in_ok-followed.followed c.in_ok-name.name.now c.args.reader.now c.opens_array.new.reader c.string_at.new.reader c.one_number.new.reader
+    (omega arith) c.in_ok-opens_array.ensures c.in_ok-name.ensures (c.is_same-else-is_same-4.ensures c.if-is_same-5.true) c.in_ok-followed.ensures)
