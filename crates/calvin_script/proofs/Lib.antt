@@ -5,3 +5,4 @@ pub mod Names
 pub mod Apps
 pub mod OrderLines
 pub mod KeptRequests
+pub mod Refusals
