@@ -12,6 +12,7 @@ mod key_list;
 mod key_set;
 mod limits;
 mod place;
+mod room_map;
 mod shared;
 mod txn;
 
@@ -23,5 +24,6 @@ pub use key::Key;
 pub use key_set::{KeySet, Sets};
 pub use limits::{MOST_ATTEMPTS, MOST_KEYS, MOST_PARTITIONS, MOST_REPLICAS, MOST_REQUESTS};
 pub use place::{Ballot, NodeId, Place, RequestId, Slot, orders_are};
+pub use room_map::{RoomKey, RoomMap};
 pub use shared::Shared;
 pub use txn::Txn;
