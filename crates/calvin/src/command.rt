@@ -151,26 +151,8 @@ fn run_serial<S: Source, K: Sink, E: Sink>(
     error: &mut E,
 ) -> u8
     ensures statuses { IsStatus result }
-    ensures devices { LeavesDevices
-        (record {
-          left = S.left;
-          read_failures = S.failures;
-          taken = K.taken;
-          write_failures = K.failures;
-          told = E.taken;
-          tell_failures = E.failures;
-        })
-        input.old input.new output.old output.new error.old error.new result }
-    ensures serial { RunsEngine
-        (record {
-          left = S.left;
-          read_failures = S.failures;
-          taken = K.taken;
-          write_failures = K.failures;
-          told = E.taken;
-          tell_failures = E.failures;
-        })
-        input.old input.new output.old output.new error.old error.new result (serial_text sets) }
+    ensures devices { LeavesDevices S.Source K.Sink E.Sink input.old input.new output.old output.new error.old error.new result }
+    ensures serial { RunsEngine S.Source K.Sink E.Sink input.old input.new output.old output.new error.old error.new result (serial_text sets) }
 {
     match serial(alloc, sets, input, output) {
         Ok(()) => 0,
@@ -207,28 +189,10 @@ pub fn command<W: AsStr, S: Source, K: Sink, E: Sink>(
     ensures told_bad_line { ¬ IsSerialLine (map W.text words.now) → result ≡ 2
         → Tells (E.taken error.old) (E.taken error.new) (E.failures error.old) (E.failures error.new) (codes "calvin: bad line\n") }
     // Which device failed, what is left as it was, and what standard error is told.
-    ensures devices { LeavesDevices
-        (record {
-          left = S.left;
-          read_failures = S.failures;
-          taken = K.taken;
-          write_failures = K.failures;
-          told = E.taken;
-          tell_failures = E.failures;
-        })
-        input.old input.new output.old output.new error.old error.new result }
+    ensures devices { LeavesDevices S.Source K.Sink E.Sink input.old input.new output.old output.new error.old error.new result }
     // `serial` writes the text for the script with the sets that are asked for, or refuses it.
     ensures serial { IsSerialLine (map W.text words.now)
-        → RunsEngine
-        (record {
-          left = S.left;
-          read_failures = S.failures;
-          taken = K.taken;
-          write_failures = K.failures;
-          told = E.taken;
-          tell_failures = E.failures;
-        })
-        input.old input.new output.old output.new error.old error.new result (serial_text (sets_asked (map W.text words.now))) }
+        → RunsEngine S.Source K.Sink E.Sink input.old input.new output.old output.new error.old error.new result (serial_text (sets_asked (map W.text words.now))) }
 {
     match parse(alloc, words) {
         Ok(Wish::Serial(sets)) => run_serial(alloc, sets, input, output, error),

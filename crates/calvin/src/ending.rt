@@ -16,7 +16,52 @@ fn status_of(fault: Fault) -> u8
         Fault::OutOfMemory => 4,
         Fault::ReadFailed | Fault::WriteFailed => 5,
         Fault::NotExpected | Fault::Closed | Fault::NoRun | Fault::NotEnded => 3,
-        _ => 2,
+        Fault::TooManyKeys
+        | Fault::Repeated
+        | Fault::BadConfig
+        | Fault::TooLong
+        | Fault::LocksOutOfOrder
+        | Fault::AdmittedOutOfOrder
+        | Fault::NoKeys
+        | Fault::NotHeld
+        | Fault::RoundsSpent
+        | Fault::NotCurrent
+        | Fault::Known
+        | Fault::NoBatch
+        | Fault::QueueFull
+        | Fault::EmptySets
+        | Fault::TooManyAttempts
+        | Fault::EpochsSpent
+        | Fault::NotComplete
+        | Fault::NotClosed
+        | Fault::Decided
+        | Fault::NotReady
+        | Fault::Begun
+        | Fault::NotAwaited
+        | Fault::ReadsMissing
+        | Fault::NotCollected
+        | Fault::StaleJob
+        | Fault::NotServed
+        | Fault::NothingToLock
+        | Fault::NotAtEnd
+        | Fault::Older
+        | Fault::NotMine
+        | Fault::PointTooLate
+        | Fault::PointOpen
+        | Fault::NoRow
+        | Fault::NoPoints
+        | Fault::NoColdTable
+        | Fault::OrderChanged
+        | Fault::NoNode
+        | Fault::NoPacket
+        | Fault::TooManyTries
+        | Fault::TooWide
+        | Fault::Unsettled
+        | Fault::Stale
+        | Fault::BadWorkers
+        | Fault::BadJson
+        | Fault::BadScript
+        | Fault::ScriptTooLong => 2,
     }
 }
 

@@ -2,10 +2,10 @@
 -- section 4: rows that are to be in memory. "Paxos Made Simple", section 2: the synod's messages).
 use Rattle.std.specs.Prelude.{ℕ, not, ◌==◌, List, [], ◌∷◌, map}
 use Rattle.std.specs.List.{filter, range_with_len}
-use Rattle.calvin_types.specs.declared.key_set.Sets.{Sets}
 use Rattle.calvin_types.specs.declared.place.NodeId.{NodeId}
 use Rattle.calvin_types.specs.declared.txn.Txn.{Txn}
-use Rattle.calvin_types.specs.Participants.{Site, site, local_keys, has_local_key}
+use Rattle.calvin_types.specs.Participants.{site, has_local_key}
+use Rattle.calvin_lock.specs.Local.{local_sets}
 use Rattle.calvin_synod.specs.Cases.{Letters, Silent, ToOne, ToAll}
 use Rattle.calvin_order.specs.Merged.{Batch}
 use Rattle.calvin_node.specs.declared.packet.Address.TheVariants.{AtNode}
@@ -22,14 +22,10 @@ module _ {Args : Type 0} where
   abbrev pub participants : ℕ → Txn Args → List ℕ
   participants parts t = filter (λ p. has_local_key (site parts p) t) (range_with_len 0 parts)
 
-  -- the declared keys that are stored at a site
-  abbrev pub local_sets : Site → Txn Args → Sets
-  local_sets here t = record { reads = local_keys here t.sets.reads; writes = local_keys here t.sets.writes }
-
 module _ {Args Row Reply : Type 0} where
   -- each of these partitions of the own replica is to have the rows of its declared keys in memory
   abbrev pub warm_packets : ℕ → NodeId → Txn Args → List ℕ → List (Packet Args Row Reply)
-  warm_packets parts me t ps = map (λ p. record { from = me; to = AtNode (record { replica = me.replica; partition = p }); content = Warm (local_sets (site parts p) t) }) ps
+  warm_packets parts me t ps = map (λ p. record { from = me; to = AtNode (record { replica = me.replica; partition = p }); content = Warm (local_sets (site parts p) t.sets) }) ps
 
   -- the same to each of these partitions of a replica
   abbrev pub to_each : NodeId → ℕ → Content Args Row Reply → List ℕ → List (Packet Args Row Reply)

@@ -7,22 +7,19 @@ ghost use Rattle.calvin_order.specs.Merged.{joined, numbered};
 ghost use Rattle.calvin_order.specs.Merging.{batch_at, HoldsAll, without_epoch};
 
 use crate::walk::{BatchSource, EpochRequests};
-use calvin_types::{Batch, Fault, MOST_PARTITIONS, MOST_REQUESTS, Place, Slot, Txn};
+use calvin_types::{Batch, Fault, MOST_PARTITIONS, MOST_REQUESTS, Place, RoomMap, Slot, Txn};
 use std::alloc::Global;
-use std::collections::HashMap;
 use std::marker::Model;
 
 /// At most one batch for each slot. Room for some more can be reserved.
 #[derive(Drop)]
 pub struct Held<Args> {
-    batches: HashMap<Slot, Batch<Args>>,
-    room: usize,
+    batches: RoomMap<Slot, Batch<Args>>,
 }
 
 impl<Args> Model for Held<Args> {
-    ghost use Rattle.std.specs.Prelude.{◌≤◌};
-    ghost use Rattle.std.specs.FinMap.{from_entries};
-    ghost use Rattle.std.specs.HashMap.{spare};
+    ghost use Rattle.calvin_types.specs.Places.{slot_cmp};
+    ghost use Rattle.calvin_types.specs.RoomMaps.{by};
     ghost use Rattle.calvin_order.specs.Merging.{Holding};
     ghost use Rattle.calvin_order.specs.Codes.{coded_holding};
 
@@ -30,9 +27,7 @@ impl<Args> Model for Held<Args> {
 
     ghost coded = { coded_holding Args.code };
 
-    ghost view = { λ h. record { batches = from_entries h.batches.entries; room = h.room } };
-
-    ghost invariant = { λ h. h.room ≤ spare h.batches };
+    ghost view = { λ h. record { batches = by slot_cmp h.batches; room = h.batches.room } };
 }
 
 impl<Args: Copy> Held<Args> {
@@ -41,8 +36,7 @@ impl<Args: Copy> Held<Args> {
         ensures { result ≡ record { batches = map.empty; room = 0 } }
     {
         Held {
-            batches: HashMap::new(alloc),
-            room: 0,
+            batches: RoomMap::new(alloc),
         }
     }
 
@@ -50,7 +44,7 @@ impl<Args: Copy> Held<Args> {
     pub fn get(&self, slot: Slot) -> Option<&Batch<Args>>
         ensures { option_copied result ≡ map.get self.now.batches slot }
     {
-        self.batches.get(&slot)
+        self.batches.get(slot)
     }
 
     /// One more batch, whose slot has none.
@@ -60,9 +54,7 @@ impl<Args: Copy> Held<Args> {
         ensures only { IsOkUnless result Fault.OutOfMemory }
         ensures succeeds { 0 < self.old.room → IsOk result }
     {
-        self.batches.insert(slot, batch)?;
-        self.room = self.room.saturating_sub(1);
-        Ok(())
+        self.batches.insert(slot, batch)
     }
 
     /// Room for one more batch at least.
@@ -72,18 +64,14 @@ impl<Args: Copy> Held<Args> {
         ensures only { IsOkUnless result Fault.OutOfMemory }
         ensures succeeds { 0 < self.old.room → IsOk result }
     {
-        if self.room == 0 {
-            self.batches.reserve(1)?;
-            self.room = 1;
-        }
-        Ok(())
+        self.batches.reserve(1)
     }
 
     /// Discards the batch for a slot, if there is one.
     fn remove(&mut self, slot: Slot)
         ensures { self.new ≡ record self.old { batches = map.remove self.old.batches slot } }
     {
-        let _discarded = self.batches.remove(&slot);
+        let _discarded = self.batches.remove(slot);
     }
 
     /// Discards the groups' batches for an epoch.

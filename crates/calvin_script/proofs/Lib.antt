@@ -6,3 +6,4 @@ pub mod Apps
 pub mod OrderLines
 pub mod KeptRequests
 pub mod StockKeys
+pub mod Refusals

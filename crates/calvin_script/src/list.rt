@@ -5,37 +5,9 @@ ghost use Rattle.serde_json.specs.View.{view};
 ghost use Rattle.calvin_script.specs.Spelling.{list, then_one};
 ghost use Rattle.calvin_script.specs.Gives.{Gives};
 
-use calvin_types::MOST_REQUESTS;
+use calvin_types::{Fault, MOST_REQUESTS};
 use serde_json::Value;
-use std::alloc::{AllocError, AllocFailed, Global};
-
-/// Why nothing was read.
-#[derive(Clone, Copy, Debug, PartialEq, Eq)]
-pub(crate) enum ScriptError {
-    OutOfMemory,
-    /// The JSON spells nothing.
-    BadScript,
-}
-
-impl From<AllocError> for ScriptError {
-    ghost use Rattle.calvin_script.specs.declared.list.ScriptError.TheVariants.{OutOfMemory};
-
-    ghost from_gives = { λ _ e. e ≡ OutOfMemory };
-
-    fn from(_refused: AllocError) -> ScriptError {
-        ScriptError::OutOfMemory
-    }
-}
-
-impl<T: Drop> From<AllocFailed<T>> for ScriptError {
-    ghost use Rattle.calvin_script.specs.declared.list.ScriptError.TheVariants.{OutOfMemory};
-
-    ghost from_gives = { λ _ e. e ≡ OutOfMemory };
-
-    fn from(_refused: AllocFailed<T>) -> ScriptError {
-        ScriptError::OutOfMemory
-    }
-}
+use std::alloc::Global;
 
 /// What JSON can spell.
 pub(crate) trait Spelled: Drop {
@@ -47,19 +19,19 @@ pub(crate) trait Spelled: Drop {
     /// What a piece of JSON spells.
     ghost spelled: { Data → Option Meaning };
 
-    /// Puts what a piece of JSON spells at the end of a list. The JSON is given back as it is read, so that its memory
-    /// serves what is found.
-    fn push_json(alloc: Global, value: Value, found: &mut Vec<Self>) -> Result<(), ScriptError>
+    /// Puts what a piece of JSON spells at the end of a list. Refused with `BadScript` where it spells nothing, and with
+    /// `OutOfMemory`. The JSON is given back as it is read, so that its memory serves what is found.
+    fn push_json(alloc: Global, value: Value, found: &mut Vec<Self>) -> Result<(), Fault>
         ensures { Gives (λ _. map meaning found.new.items) result
             (then_one (map meaning found.old.items) (spelled (view value))) };
 }
 
-/// The list that a piece of JSON spells.
-pub(crate) fn list_of<T: Spelled>(alloc: Global, value: Value) -> Result<Vec<T>, ScriptError>
+/// The list that a piece of JSON spells. Refused with `BadScript` where it spells none, and with `OutOfMemory`.
+pub(crate) fn list_of<T: Spelled>(alloc: Global, value: Value) -> Result<Vec<T>, Fault>
     ensures { Gives (λ v. map T.meaning v.items) result (list T.spelled (view value)) }
 {
     let Value::Array(items) = value else {
-        return Err(ScriptError::BadScript);
+        return Err(Fault::BadScript);
     };
     // room for a whole batch is had at once; a longer list grows
     let mut found = Vec::with_capacity(alloc, items.len().min(MOST_REQUESTS))?;

@@ -7,7 +7,6 @@ ghost use Rattle.calvin_script.specs.Documents.{data_of, app_of, script_in};
 
 use crate::contents::Script;
 use crate::kept::Kept;
-use crate::list::ScriptError;
 use crate::operation::Operation;
 use crate::script::script_of;
 use calvin_app::KvRequest;
@@ -62,14 +61,11 @@ impl Document {
 
     /// The script that it is, for an application. Refused with `BadScript` where it doesn't have the form of a script
     /// for this application, and with `OutOfMemory`.
+    #[tactic(auto, using(crate::proofs::Refusals::script_read))]
     pub fn into_script<Op: Operation>(self, alloc: Global) -> Result<Script<Kept<Op>>, Fault>
         ensures { Reads contents result (script_in Op.grammar (data_of self)) }
     {
-        match script_of(alloc, self.value) {
-            Ok(script) => Ok(script),
-            Err(ScriptError::OutOfMemory) => Err(Fault::OutOfMemory),
-            Err(ScriptError::BadScript) => Err(Fault::BadScript),
-        }
+        script_of(alloc, self.value)
     }
 }
 

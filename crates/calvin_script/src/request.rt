@@ -1,6 +1,5 @@
 //! Requests.
 ghost use Rattle.std.specs.Prelude.{◌≡◌, ◌^◌, [], false, option_map, IfOk, IsOkUnless};
-ghost use Rattle.calvin_script.specs.declared.list.ScriptError.TheVariants as ScriptError;
 ghost use Rattle.serde_json.specs.View.{view};
 ghost use Rattle.calvin_script.specs.Requests.{id_of, named, sets_of, request_of};
 ghost use Rattle.calvin_script.specs.Gives.{Gives};
@@ -9,10 +8,10 @@ ghost use Rattle.calvin_script.specs.Spelling.{below, optional, then_one};
 use crate::fields::{has_only, u8_of, u32_of};
 use crate::kept::Kept;
 use crate::key_list::{WholeKey, read_key_set};
-use crate::list::{ScriptError, Spelled};
+use crate::list::Spelled;
 use crate::members::{Needed, declared_alone, needed_alone};
 use crate::operation::Operation;
-use calvin_types::{KeySet, RequestId, Sets, Txn};
+use calvin_types::{Fault, KeySet, RequestId, Sets, Txn};
 use serde_json::Value;
 use std::alloc::Global;
 
@@ -67,14 +66,10 @@ fn read_named<Op: Operation>(
 }
 
 /// Keeps a request, of which the sets were declared or are those that its operation needs where no row is known.
-fn keep<Op: Operation>(
-    alloc: Global,
-    txn: &Txn<Op>,
-    is_declared: bool,
-) -> Result<Kept<Op>, ScriptError>
+fn keep<Op: Operation>(alloc: Global, txn: &Txn<Op>, is_declared: bool) -> Result<Kept<Op>, Fault>
     requires { is_declared ≡ false → txn.now.sets ≡ Op.grammar.first_needs txn.now.args }
     ensures ok { IfOk result (λ kept. kept ≡ record { txn = txn.now; is_declared = is_declared }) }
-    ensures only { IsOkUnless result ScriptError.OutOfMemory }
+    ensures only { IsOkUnless result Fault.OutOfMemory }
 {
     if is_declared {
         let declared = Box::new(alloc, txn.sets)?;
@@ -92,12 +87,12 @@ fn push_request<Op: Operation>(
     reads: Option<&Value>,
     writes: Option<&Value>,
     found: &mut Vec<Kept<Op>>,
-) -> Result<(), ScriptError>
+) -> Result<(), Fault>
     ensures { Gives (λ _. found.new.items) result (then_one found.old.items (request_of Op.grammar
         (view needed.entry.client.now) (view needed.entry.number.now) (view needed.entry.op.now) attempt
         (option_map (λ v. view v.now) reads.entry) (option_map (λ v. view v.now) writes.entry))) }
 {
-    let id = id_of(needed.client, needed.number).ok_or(ScriptError::BadScript)?;
+    let id = id_of(needed.client, needed.number).ok_or(Fault::BadScript)?;
     let mut txn = Txn {
         id,
         attempt,
@@ -107,7 +102,7 @@ fn push_request<Op: Operation>(
             writes: KeySet::new(),
         },
     };
-    read_named(&mut txn, needed.op, reads, writes).ok_or(ScriptError::BadScript)?;
+    read_named(&mut txn, needed.op, reads, writes).ok_or(Fault::BadScript)?;
     let kept = keep(alloc, &txn, reads.is_some())?;
     found.push(kept)?;
     Ok(())
@@ -134,11 +129,7 @@ impl<Op: Operation> Spelled for Kept<Op> {
     ghost spelled = { request Op.grammar };
 
     #[tactic(auto, unfolding(crate::specs::Requests::request), using(crate::proofs::Names::short_request, crate::proofs::Names::declared_request))]
-    fn push_json(
-        alloc: Global,
-        value: Value,
-        found: &mut Vec<Kept<Op>>,
-    ) -> Result<(), ScriptError> {
+    fn push_json(alloc: Global, value: Value, found: &mut Vec<Kept<Op>>) -> Result<(), Fault> {
         if let Some(needed) = needed_alone(&value) {
             return push_request(alloc, needed, 1, None, None, found);
         }
@@ -150,13 +141,13 @@ impl<Op: Operation> Spelled for Kept<Op> {
             &value,
             &["client", "number", "op", "attempt", "reads", "writes"],
         ) {
-            return Err(ScriptError::BadScript);
+            return Err(Fault::BadScript);
         }
-        let client = value.get("client").ok_or(ScriptError::BadScript)?;
-        let number = value.get("number").ok_or(ScriptError::BadScript)?;
-        let op = value.get("op").ok_or(ScriptError::BadScript)?;
+        let client = value.get("client").ok_or(Fault::BadScript)?;
+        let number = value.get("number").ok_or(Fault::BadScript)?;
+        let op = value.get("op").ok_or(Fault::BadScript)?;
         let needed = Needed { client, number, op };
-        let attempt = attempt_of(value.get("attempt")).ok_or(ScriptError::BadScript)?;
+        let attempt = attempt_of(value.get("attempt")).ok_or(Fault::BadScript)?;
         push_request(
             alloc,
             needed,

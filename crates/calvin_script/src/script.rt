@@ -9,9 +9,9 @@ ghost use Rattle.calvin_script.specs.Gives.{Gives};
 use crate::contents::{Epoch, GroupBatch, Script};
 use crate::fields::{between, has_only, u8_of};
 use crate::kept::Kept;
-use crate::list::{ScriptError, Spelled, list_of};
+use crate::list::{Spelled, list_of};
 use crate::operation::Operation;
-use calvin_types::{MOST_PARTITIONS, MOST_REQUESTS};
+use calvin_types::{Fault, MOST_PARTITIONS, MOST_REQUESTS};
 use serde_json::Value;
 use std::alloc::Global;
 
@@ -53,15 +53,15 @@ impl<Op: Operation> Spelled for GroupBatch<Kept<Op>> {
         alloc: Global,
         mut value: Value,
         found: &mut Vec<GroupBatch<Kept<Op>>>,
-    ) -> Result<(), ScriptError> {
+    ) -> Result<(), Fault> {
         if !has_only(&value, &["group", "txns"]) {
-            return Err(ScriptError::BadScript);
+            return Err(Fault::BadScript);
         }
-        let group = value.get("group").ok_or(ScriptError::BadScript)?;
-        let group = u8_of(group).ok_or(ScriptError::BadScript)?;
-        let requests = value.get_mut("txns").ok_or(ScriptError::BadScript)?.take();
+        let group = value.get("group").ok_or(Fault::BadScript)?;
+        let group = u8_of(group).ok_or(Fault::BadScript)?;
+        let requests = value.get_mut("txns").ok_or(Fault::BadScript)?.take();
         let requests = list_of(alloc, requests)?;
-        let batch = GroupBatch::new(group, requests).ok_or(ScriptError::BadScript)?;
+        let batch = GroupBatch::new(group, requests).ok_or(Fault::BadScript)?;
         found.push(batch)?;
         Ok(())
     }
@@ -82,7 +82,7 @@ impl<Op: Operation> Spelled for Epoch<Kept<Op>> {
         alloc: Global,
         value: Value,
         found: &mut Vec<Epoch<Kept<Op>>>,
-    ) -> Result<(), ScriptError> {
+    ) -> Result<(), Fault> {
         let batches = list_of(alloc, value)?;
         found.push(Epoch { batches })?;
         Ok(())
@@ -137,28 +137,25 @@ impl<Op: Operation> Script<Kept<Op>> {
     }
 }
 
-/// The script that a piece of JSON spells.
+/// The script that a piece of JSON spells. Refused with `BadScript` where it spells none, and with `OutOfMemory`.
 #[tactic(auto, unfolding(crate::specs::Scripts::script))]
 pub(crate) fn script_of<Op: Operation>(
     alloc: Global,
     mut value: Value,
-) -> Result<Script<Kept<Op>>, ScriptError>
+) -> Result<Script<Kept<Op>>, Fault>
     ensures { Gives contents result (script Op.grammar (view value)) }
 {
     if !has_only(&value, &["partitions", "app", "epochs"]) {
-        return Err(ScriptError::BadScript);
+        return Err(Fault::BadScript);
     }
-    let partitions = value.get("partitions").ok_or(ScriptError::BadScript)?;
-    let partitions = between(1, MOST_PARTITIONS, partitions).ok_or(ScriptError::BadScript)?;
-    let app = value.get("app").ok_or(ScriptError::BadScript)?;
-    let app = app.as_str().ok_or(ScriptError::BadScript)?;
+    let partitions = value.get("partitions").ok_or(Fault::BadScript)?;
+    let partitions = between(1, MOST_PARTITIONS, partitions).ok_or(Fault::BadScript)?;
+    let app = value.get("app").ok_or(Fault::BadScript)?;
+    let app = app.as_str().ok_or(Fault::BadScript)?;
     if app != Op::app_name() {
-        return Err(ScriptError::BadScript);
+        return Err(Fault::BadScript);
     }
-    let epochs = value
-        .get_mut("epochs")
-        .ok_or(ScriptError::BadScript)?
-        .take();
+    let epochs = value.get_mut("epochs").ok_or(Fault::BadScript)?.take();
     let epochs = list_of(alloc, epochs)?;
-    Script::new(partitions, epochs).ok_or(ScriptError::BadScript)
+    Script::new(partitions, epochs).ok_or(Fault::BadScript)
 }

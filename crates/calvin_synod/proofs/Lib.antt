@@ -6,7 +6,6 @@ pub mod Core
 pub mod Replicas
 pub mod Roles
 pub mod Cases
-pub mod ProposalMaps
 pub mod Bounds
 pub mod Voters
 pub mod Reported

@@ -3,28 +3,22 @@ use Rattle.std.proofs.Common.{◌≡◌, ◌≢◌, ℕ, ◌⊎◌, ap, Some, No
 use Rattle.std.specs.Ordering.{nat_cmp}
 use Rattle.std.specs.Option.{unwrap_or}
 use Rattle.std.specs.Cmp.{IsTotalOrder, nat_cmp_total}
-use Rattle.std.specs.FinMap.{FinMap, IsAntisymmetric, get, insert, remove}
+use Rattle.std.specs.FinMap.{FinMap, get, insert, remove}
 use Rattle.std.proofs.lemmas.Cmp.{on_total, then_total}
-use Rattle.std.proofs.lemmas.Map.Lookups.{exact_pairs, exact_unsigned}
 use Rattle.calvin_types.specs.declared.place.Ballot.{Ballot}
 use Rattle.calvin_types.specs.declared.place.Slot.{Slot}
 use Rattle.calvin_types.specs.Places.{slot_cmp, ballot_cmp}
 use Rattle.calvin_types.proofs.ExactMaps.{same_or_not, insert_here, insert_other, remove_here, remove_other}
-use Rattle.calvin_types.proofs.SlotMaps.{slot_total, slot_exact}
+use Rattle.calvin_types.proofs.SlotMaps.{slot_total}
 use Rattle.calvin_synod.specs.declared.tallies.Proposal.{Proposal}
 use Rattle.calvin_synod.specs.Roles.{proposal_cmp}
+pub use Rattle.calvin_synod.specs.ProposalLaws.{ballot_exact, proposal_exact}
 
 pub ballot_total : IsTotalOrder ballot_cmp
 ballot_total = then_total (on_total (λ (b : Ballot). b.round) nat_cmp_total) (on_total (λ (b : Ballot). b.replica) nat_cmp_total)
 
-pub ballot_exact : IsAntisymmetric ballot_cmp
-ballot_exact a b h = ap (λ (p : ℕ × ℕ). record { round = p.0; replica = p.1 }) (exact_pairs nat_cmp nat_cmp exact_unsigned exact_unsigned (a.round, a.replica) (b.round, b.replica) h)
-
 pub proposal_total : IsTotalOrder proposal_cmp
 proposal_total = then_total (on_total (λ (p : Proposal). p.slot) slot_total) (on_total (λ (p : Proposal). p.ballot) ballot_total)
-
-pub proposal_exact : IsAntisymmetric proposal_cmp
-proposal_exact a b h = ap (λ (p : Slot × Ballot). record { slot = p.0; ballot = p.1 }) (exact_pairs slot_cmp ballot_cmp slot_exact ballot_exact (a.slot, a.ballot) (b.slot, b.ballot) h)
 
 -- whose votes are counted, after those of one proposal changed
 abbrev at : Slot → Ballot → Proposal

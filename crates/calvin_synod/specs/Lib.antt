@@ -5,3 +5,4 @@ pub mod MessageCodes
 pub mod Quorums
 pub mod Roles
 pub mod States
+pub mod ProposalLaws

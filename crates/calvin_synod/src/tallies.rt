@@ -3,29 +3,32 @@ ghost use Rattle.std.specs.Prelude.{◌≡◌, ◌<◌, ◌-◌, ◌++◌, ◌�
 ghost use Rattle.std.specs.Option.{unwrap_or};
 ghost use Rattle.std.specs.FinMap as map;
 
-use calvin_types::{Ballot, Fault, Few, MOST_REPLICAS, Slot};
+use calvin_types::{Ballot, Fault, Few, MOST_REPLICAS, RoomKey, RoomMap, Slot};
 use std::alloc::Global;
-use std::collections::HashMap;
 use std::marker::Model;
 
 /// Which proposal is voted for: that of a slot at a ballot.
-#[derive(Clone, Copy, Debug, PartialEq, Eq, Hash)]
+#[derive(Clone, Copy, Debug, PartialEq, Eq, PartialOrd, Ord, Hash)]
 pub struct Proposal {
     pub slot: Slot,
     pub ballot: Ballot,
 }
 
+impl RoomKey for Proposal {
+    ghost use Rattle.calvin_synod.specs.ProposalLaws.{proposal_exact};
+
+    ghost exact = { proposal_exact };
+}
+
 /// Who voted for each proposal, in the order in which the votes came. Room for some more proposals can be reserved.
 #[derive(Drop)]
 pub struct Tallies {
-    voters: HashMap<Proposal, Few<u8>>,
-    room: usize,
+    voters: RoomMap<Proposal, Few<u8>>,
 }
 
 impl Model for Tallies {
-    ghost use Rattle.std.specs.Prelude.{◌≤◌};
-    ghost use Rattle.std.specs.FinMap.{from_entries};
-    ghost use Rattle.std.specs.HashMap.{spare};
+    ghost use Rattle.calvin_types.specs.RoomMaps.{by};
+    ghost use Rattle.calvin_synod.specs.Roles.{proposal_cmp};
     ghost use Rattle.calvin_synod.specs.States.{Tallied};
     ghost use Rattle.calvin_synod.specs.Codes.{coded_tallied};
 
@@ -33,9 +36,7 @@ impl Model for Tallies {
 
     ghost coded = { coded_tallied };
 
-    ghost view = { λ t. record { counted = from_entries t.voters.entries; room = t.room } };
-
-    ghost invariant = { λ t. t.room ≤ spare t.voters };
+    ghost view = { λ t. record { counted = by proposal_cmp t.voters; room = t.voters.room } };
 }
 
 impl Tallies {
@@ -43,8 +44,7 @@ impl Tallies {
         ensures { result ≡ record { counted = map.empty; room = 0 } }
     {
         Tallies {
-            voters: HashMap::new(alloc),
-            room: 0,
+            voters: RoomMap::new(alloc),
         }
     }
 
@@ -52,7 +52,7 @@ impl Tallies {
     pub fn voters(&self, proposal: Proposal) -> Few<u8>
         ensures { result ≡ unwrap_or (map.get self.now.counted proposal) [] }
     {
-        match self.voters.get(&proposal) {
+        match self.voters.get(proposal) {
             Some(voters) => *voters,
             None => Few::new(),
         }
@@ -68,16 +68,14 @@ impl Tallies {
     {
         let mut voters = self.voters(proposal);
         voters.push(from);
-        self.voters.insert(proposal, voters)?;
-        self.room = self.room.saturating_sub(1);
-        Ok(())
+        self.voters.insert(proposal, voters)
     }
 
     /// Ends the count of a proposal.
     pub fn remove(&mut self, proposal: Proposal)
         ensures { self.new ≡ record self.old { counted = map.remove self.old.counted proposal } }
     {
-        self.voters.remove(&proposal);
+        self.voters.remove(proposal);
     }
 
     /// Room for one more proposal at least.
@@ -86,10 +84,6 @@ impl Tallies {
         ensures err { OnErr result (self.new ≡ self.old) }
         ensures only { IsOkUnless result Fault.OutOfMemory }
     {
-        if self.room == 0 {
-            self.voters.reserve(1)?;
-            self.room = 1;
-        }
-        Ok(())
+        self.voters.reserve(1)
     }
 }

@@ -8,7 +8,8 @@ use Rattle.calvin_types.specs.Keys.{insert_key, takes}
 use Rattle.calvin_types.proofs.Risings.{length-grows, length-grows_by}
 use Rattle.calvin_script.specs.KeyLists.{set_of, key_set}
 use Rattle.calvin_script.proofs.KeySets.{with_more, grown_end}
-use Rattle.calvin_tokens.specs.Spelled.{Spells, SpellsEach}
+use Rattle.calvin_tokens.specs.Spelled.{Spells}
+use Rattle.calvin_tokens.proofs.Insides.{SpellsEach}
 use Rattle.calvin_tokens.proofs.Steps.{each_more, each_end, list_spelled}
 
 too_many : (n : ℕ) → 16 < n → nat_le n 16 ≡ false

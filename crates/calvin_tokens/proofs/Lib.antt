@@ -1,3 +1,4 @@
+pub mod Insides
 pub mod Digits
 pub mod Turns
 pub mod Steps

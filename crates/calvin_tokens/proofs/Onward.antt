@@ -2,7 +2,8 @@
 use Rattle.std.proofs.Common.{◌≡◌, ℕ, suc, List, ◌∷◌}
 use Rattle.json.specs.Token.{Token}
 use Rattle.serde_json.specs.Data.{Members, no_members, put}
-use Rattle.calvin_tokens.specs.Spelled.{ReadsMembers, MemberRead, ObjectRead}
+use Rattle.calvin_tokens.specs.Spelled.{MemberRead, ObjectRead}
+use Rattle.calvin_tokens.proofs.Insides.{ReadsMembers}
 use Rattle.calvin_tokens.proofs.Steps.{members_end, members_more, object_reads}
 
 module _ {A : Type 0} (holds : Members → A → Type 0) (deep : ℕ) (start : List Token) where

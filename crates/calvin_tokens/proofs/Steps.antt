@@ -8,7 +8,8 @@ use Rattle.serde_json.specs.Find.{as_str}
 use Rattle.serde_json.specs.Read.{of_json, converted, number_of}
 use Rattle.calvin_tokens.proofs.Turns.{converted_some, converted-array, converted-object, item_read, items_over, member_read, members_over}
 use Rattle.calvin_script.specs.Spelling.{list, below, between}
-use Rattle.calvin_tokens.specs.Spelled.{Reads, ReadsItems, ReadsMembers, Spells, SpellsEach, SpellsOneMore}
+use Rattle.calvin_tokens.specs.Spelled.{Reads, ReadsItems, Spells, SpellsOneMore}
+use Rattle.calvin_tokens.proofs.Insides.{ReadsMembers, SpellsEach}
 
 -- ---- one token
 

@@ -1,9 +1,8 @@
 -- What the tokens of a reader spell: the data that serde_json reads from them, and what that data spells in a script. The
 -- notion is of this project; the tokens are those of the kit's json.
 --     Reads deep ts d rest      the tokens are those of d, which nests at most `deep` levels, and then the rest
---     ReadsItems, ReadsMembers      the same of what stands in an array, and in an object of which members were found before
+--     ReadsItems deep ts ds rest      the same of what stands in an array
 --     Spells f deep ts x rest      the tokens are those of data that spells x, and then the rest
---     SpellsEach f deep ts xs rest      the same of what stands in an array
 --     SpellsBehind f deep ts x rest      the tokens are those of what follows a name in an array that spells x, whatever the name is, and then the rest
 --     SpellsOneMore f deep ts before after rest      the same of one thing, which was put behind a list
 --     key_or_end name      the name of a member, or the brace that closes its object
@@ -13,8 +12,7 @@ use Rattle.std.specs.Prelude.{◌≡◌, ◌≤◌, ℕ, List, [], ◌∷◌, �
 use Rattle.json.specs.Token.{Token}
 use Rattle.json.specs.Json as json
 use Rattle.serde_json.specs.Data.{Data, array, object, Items, item, Members, put}
-use Rattle.serde_json.specs.Read.{of_json, of_items, of_members, converted}
-use Rattle.calvin_script.specs.Spelling.{each}
+use Rattle.serde_json.specs.Read.{of_json, of_items, converted}
 
 pub record Reads (deep : ℕ) (ts : List Token) (d : Data) (rest : List Token) : Type 0 where
   pub at : (depth : ℕ) → deep ≤ depth → converted of_json (json.value depth ts) ≡ Some (d, rest)
@@ -22,18 +20,10 @@ pub record Reads (deep : ℕ) (ts : List Token) (d : Data) (rest : List Token) :
 pub record ReadsItems (deep : ℕ) (ts : List Token) (ds : Items) (rest : List Token) : Type 0 where
   pub at : (depth n : ℕ) → deep ≤ depth → length ts ≤ n → converted of_items (json.items (json.value depth) n ts) ≡ Some (ds, rest)
 
-pub record ReadsMembers (deep : ℕ) (ts : List Token) (found ms : Members) (rest : List Token) : Type 0 where
-  pub at : (depth n : ℕ) → deep ≤ depth → length ts ≤ n → converted (λ l. of_members l found) (json.members (json.value depth) n ts) ≡ Some (ms, rest)
-
 pub record Spells {A : Type 0} (f : Data → Option A) (deep : ℕ) (ts : List Token) (x : A) (rest : List Token) : Type 0 where
   pub piece : Data
   pub reads : Reads deep ts piece rest
   pub means : f piece ≡ Some x
-
-pub record SpellsEach {A : Type 0} (f : Data → Option A) (deep : ℕ) (ts : List Token) (xs : List A) (rest : List Token) : Type 0 where
-  pub pieces : Items
-  pub reads : ReadsItems deep ts pieces rest
-  pub means : each f pieces ≡ Some xs
 
 pub record SpellsBehind {A : Type 0} (f : Data → Option A) (deep : ℕ) (ts : List Token) (x : A) (rest : List Token) : Type 0 where
   pub pieces : Items

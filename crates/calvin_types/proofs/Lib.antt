@@ -7,4 +7,5 @@ pub mod KeySets
 pub mod ListTests
 pub mod PlaceOrder
 pub mod Risings
+pub mod RoomMaps
 pub mod SlotMaps

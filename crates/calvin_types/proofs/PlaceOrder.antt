@@ -1,18 +1,14 @@
 -- The order of places is total, and places that tie are one.
-use Rattle.std.proofs.Common.{◌≡◌, ℕ, true, sym, ap, subst}
+use Rattle.std.proofs.Common.{◌≡◌, true, sym, subst}
 use Rattle.std.specs.Ordering.{nat_cmp, eq_by_cmp}
 use Rattle.std.specs.Cmp.{IsTotalOrder, nat_cmp_total, tied_itself, Equal-is}
-use Rattle.std.specs.FinMap.{IsAntisymmetric}
 use Rattle.std.proofs.lemmas.Cmp.{on_total, then_total}
-use Rattle.std.proofs.lemmas.Map.Lookups.{exact_pairs, exact_unsigned}
 use Rattle.calvin_types.specs.declared.place.Place.{Place}
 use Rattle.calvin_types.specs.Places.{place_cmp, IsBefore}
+pub use Rattle.calvin_types.specs.PlaceLaws.{place_exact}
 
 pub place_total : IsTotalOrder place_cmp
 place_total = then_total (on_total (λ (q : Place). q.epoch) nat_cmp_total) (on_total (λ (q : Place). q.n) nat_cmp_total)
-
-pub place_exact : IsAntisymmetric place_cmp
-place_exact a b h = ap (λ (p : ℕ × ℕ). record { epoch = p.0; n = p.1 }) (exact_pairs nat_cmp nat_cmp exact_unsigned exact_unsigned (a.epoch, a.n) (b.epoch, b.n) h)
 
 pub not_before_itself : (a : Place) → IsBefore a a → ⊥
 not_before_itself a h = let t = tied_itself place_total a in absurd (cc)

@@ -1,22 +1,19 @@
 -- Slots in their order, maps of slots, and a hash map of slots beside the finite map that its entries are.
-use Rattle.std.proofs.Common.{◌≡◌, ◌≢◌, ℕ, Bool, true, cond, ◌&&◌, ◌⊎◌, List, Some, None, nat_eq, refl, ap, eqb-true, eq-eqb}
+use Rattle.std.proofs.Common.{◌≡◌, ◌≢◌, Bool, true, cond, ◌&&◌, ◌⊎◌, List, Some, None, nat_eq, refl, eqb-true, eq-eqb}
 use Rattle.std.specs.Ordering.{nat_cmp}
 use Rattle.std.specs.Cmp.{IsTotalOrder, nat_cmp_total}
 use Rattle.std.specs.Map.{lookup}
-use Rattle.std.specs.FinMap.{FinMap, IsAntisymmetric, get, insert, remove, from_entries}
+use Rattle.std.specs.FinMap.{FinMap, get, insert, remove, from_entries}
 use Rattle.std.proofs.lemmas.Bool.{and_parts}
 use Rattle.std.proofs.lemmas.Cmp.{on_total, then_total}
-use Rattle.std.proofs.lemmas.Map.Lookups.{exact_pairs, exact_unsigned}
 use Rattle.calvin_types.specs.declared.place.Slot.{Slot}
 use Rattle.calvin_types.specs.Places.{slot_cmp}
+pub use Rattle.calvin_types.specs.PlaceLaws.{slot_exact}
 use Rattle.calvin_types.proofs.ExactMaps.{same_or_not, insert_here, insert_other, remove_here, remove_other}
 use Rattle.calvin_types.proofs.HashMaps as maps
 
 pub slot_total : IsTotalOrder slot_cmp
 slot_total = then_total (on_total (λ (s : Slot). s.epoch) nat_cmp_total) (on_total (λ (s : Slot). s.group) nat_cmp_total)
-
-pub slot_exact : IsAntisymmetric slot_cmp
-slot_exact a b h = ap (λ (p : ℕ × ℕ). record { epoch = p.0; group = p.1 }) (exact_pairs nat_cmp nat_cmp exact_unsigned exact_unsigned (a.epoch, a.group) (b.epoch, b.group) h)
 
 pub same_slot_or_not : (s t : Slot) → (s ≡ t) ⊎ (s ≢ t)
 same_slot_or_not s t = same_or_not slot_cmp slot_total slot_exact s t

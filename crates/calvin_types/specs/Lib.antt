@@ -10,7 +10,9 @@ pub mod Keys
 pub mod Limits
 pub mod Orders
 pub mod Participants
+pub mod PlaceLaws
 pub mod Places
+pub mod RoomMaps
 pub mod SameKeys
 pub mod SameKeysLaws
 pub mod Submitting

@@ -12,6 +12,7 @@ mod key_list;
 mod key_set;
 mod limits;
 mod place;
+mod room_map;
 mod shared;
 mod txn;
 
@@ -26,5 +27,6 @@ pub use limits::{
     MOST_ROUNDS, MOST_UNDECIDED,
 };
 pub use place::{Ballot, NodeId, Place, RequestId, Slot, orders_are};
+pub use room_map::{RoomKey, RoomMap};
 pub use shared::Shared;
 pub use txn::Txn;

@@ -2,6 +2,8 @@
 ghost use Rattle.std.specs.Prelude.{◌≡◌};
 ghost use Rattle.calvin_types.specs.Places.{place_cmp, slot_cmp, ballot_cmp, node_cmp};
 
+use crate::room_map::RoomKey;
+
 /// The name of a request: its client, and the client's own number for it. New attempts at a request keep its name.
 #[derive(Clone, Copy, Debug, PartialEq, Eq, PartialOrd, Ord, Hash)]
 pub struct RequestId {
@@ -38,6 +40,18 @@ pub struct Ballot {
 pub struct NodeId {
     pub replica: u8,
     pub partition: u8,
+}
+
+impl RoomKey for Place {
+    ghost use Rattle.calvin_types.specs.PlaceLaws.{place_exact};
+
+    ghost exact = { place_exact };
+}
+
+impl RoomKey for Slot {
+    ghost use Rattle.calvin_types.specs.PlaceLaws.{slot_exact};
+
+    ghost exact = { slot_exact };
 }
 
 /// Places, slots, ballots and nodes compare in code as their definitions say, so that what a generic map or search does

@@ -12,7 +12,8 @@ use Rattle.calvin_node.specs.declared.packet.Content.{Content}
 use Rattle.calvin_node.specs.declared.packet.Packet.{Packet}
 use Rattle.calvin_node.specs.declared.packet.Address.TheVariants.{AtNode}
 use Rattle.calvin_node.specs.declared.packet.Content.TheVariants.{Synod, Decided, AskBatch, Reads, AskReads, Warm, Replies}
-use Rattle.calvin_node.specs.Packets.{synod_packets, to_each, others, participants, warm_packets, local_sets}
+use Rattle.calvin_lock.specs.Local.{local_sets}
+use Rattle.calvin_node.specs.Packets.{synod_packets, to_each, others, participants, warm_packets}
 use Rattle.calvin_order.specs.Merged.{Batch}
 use Rattle.calvin_sched.specs.Scheduling.{other_active, reads_here}
 use Rattle.calvin_synod.specs.Cases.{slot_of, Replica, Letters, Silent, ToOne, ToAll, Deed, Does, handle, propose, restart}
@@ -73,9 +74,9 @@ module _ {Args Row Reply : Type 0} where
   -- each is to warm its keys
   pub warm_word : (parts : ℕ) (me : NodeId) (t : Txn Args) (ps : List ℕ) (p : Packet Args Row Reply) → Contains (warm_packets parts me t ps) p → (sets : Sets) × (p.content ≡ Warm sets)
   warm_word parts me t ps p c =
-      let f : ℕ → Packet Args Row Reply = (λ q. record { from = me; to = AtNode (record { replica = me.replica; partition = q }); content = Warm (local_sets (site_of parts q) t) }) in
+      let f : ℕ → Packet Args Row Reply = (λ q. record { from = me; to = AtNode (record { replica = me.replica; partition = q }); content = Warm (local_sets (site_of parts q) t.sets) }) in
       let is = from_map f ps p c in
-      (local_sets (site_of parts is.0) t, sym (ap (λ (p : Packet Args Row Reply). p.content) is.1))
+      (local_sets (site_of parts is.0) t.sets, sym (ap (λ (p : Packet Args Row Reply). p.content) is.1))
 
   warm_plain : (parts : ℕ) (me : NodeId) (t : Txn Args) (ps : List ℕ) → ArePlain (warm_packets parts me t ps)
   warm_plain parts me t ps p c = subst IsPlain (sym (warm_word parts me t ps p c).1) tt

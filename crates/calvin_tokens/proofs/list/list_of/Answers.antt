@@ -1,6 +1,6 @@
 use Rattle.std.proofs.Common.{◌≡◌, ◌∷◌, [], sym, ap, ◌∙◌}
 use Rattle.json.specs.Token.{Token}
-use Rattle.calvin_tokens.specs.Spelled.{SpellsEach}
+use Rattle.calvin_tokens.proofs.Insides.{SpellsEach}
 use Rattle.calvin_tokens.proofs.Steps.{each_end, each_onward, each_done, list_spelled, one_more-shorter}
 use Rattle.calvin_tokens.proofs.list.list_of.Goals as goal
 

@@ -1,6 +1,6 @@
 use Rattle.std.proofs.Common.{◌++◌, List, map, length}
 use Rattle.json.specs.Token.{Token}
-use Rattle.calvin_tokens.specs.Spelled.{SpellsEach}
+use Rattle.calvin_tokens.proofs.Insides.{SpellsEach}
 use Rattle.calvin_tokens.proofs.list.list_of.Given as goal
 
 abbrev pub invariant-items : goal.invariant-items

@@ -2,7 +2,7 @@ use Rattle.std.proofs.Common.{◌++◌, ◌≤◌, List, length}
 use Rattle.json.specs.Token.{Token}
 use Rattle.calvin_stock.specs.declared.order.Line.{Line}
 use Rattle.calvin_script.specs.StockOperations.{line}
-use Rattle.calvin_tokens.specs.Spelled.{SpellsEach}
+use Rattle.calvin_tokens.proofs.Insides.{SpellsEach}
 use Rattle.calvin_tokens.proofs.stock.lines_at.Given as goal
 
 abbrev pub invariant-lines : goal.invariant-lines
