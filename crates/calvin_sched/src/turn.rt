@@ -1,0 +1,225 @@
+//! An admitted request.
+ghost use Rattle.std.specs.Prelude.{◌≡◌, ◌<◌, ◌≤◌, ◌-◌, ◌||◌, ◌&&◌, ◌==◌, not, is_some, max, length, IsTrue, OnOk, OnErr, IsOkUnless};
+ghost use Rattle.std.specs.FinMap as map;
+ghost use Rattle.calvin_types.specs.Keys.{partition_of};
+ghost use Rattle.calvin_types.specs.Participants.{site, is_local, local_keys, is_active};
+ghost use Rattle.calvin_app.specs.Rows.{view};
+ghost use Rattle.calvin_sched.specs.Keeping.{awaited};
+ghost use Rattle.calvin_sched.specs.Scheduling.{new_turn, is_finished, awaits, is_collected, piece, whole_view, other_active};
+ghost use Rattle.calvin_sched.specs.Steps.{begun_turn, with_rows};
+ghost use Rattle.calvin_sched.specs.declared.phase.Phase.TheVariants.{Done};
+
+use crate::came::Came;
+use crate::phase::Phase;
+use crate::reading::Reading;
+use calvin_app::{View, look_up};
+use calvin_store::Rows;
+use calvin_types::{Config, Fault, Few, Key, Txn};
+use std::alloc::Global;
+use std::marker::Model;
+
+/// An admitted request at one partition: how far it is, the rows that were read here, and those that came from other
+/// partitions. Contracts see also for how many more partitions' rows there is room.
+#[derive(Drop)]
+pub struct Turn<Args: Copy, Row: Copy> {
+    txn: Txn<Args>,
+    phase: Phase,
+    served: View<Row>,
+    came: Came<Row>,
+}
+
+impl<Args: Copy, Row: Copy> Model for Turn<Args, Row> {
+    ghost use Rattle.calvin_sched.specs.Keeping.{Kept};
+    ghost use Rattle.std.specs.Coded.{codes};
+    ghost use Rattle.std.specs.FinMap.{code};
+
+    ghost Value = { Kept Args Row };
+
+    ghost coded = { Prim.hlevel (codes, code) };
+
+    ghost view = { λ t. record {
+      turn = record { request = t.txn; phase = t.phase; served = t.served; came = t.came.rows };
+      room = t.came.room;
+    } };
+}
+
+impl<Args: Copy, Row: Copy> Turn<Args, Row> {
+    /// A request that waits for its locks.
+    pub fn new(alloc: Global, txn: Txn<Args>) -> Turn<Args, Row>
+        ensures { result.turn ≡ new_turn txn }
+    {
+        Turn {
+            txn,
+            phase: Phase::Waiting,
+            served: View::new(),
+            came: Came::new(alloc),
+        }
+    }
+
+    /// Room for the rows of some more partitions.
+    pub fn reserve(&mut self, partitions: usize) -> Result<(), Fault>
+        ensures ok { OnOk result (self.new ≡ record self.old { room = max partitions self.old.room }) }
+        ensures err { OnErr result (self.new ≡ self.old) }
+        ensures only { IsOkUnless result Fault.OutOfMemory }
+    {
+        self.came.reserve(partitions)?;
+        Ok(())
+    }
+
+    /// The request.
+    pub fn txn(&self) -> &Txn<Args>
+        ensures { result.now ≡ self.now.turn.request }
+    {
+        &self.txn
+    }
+
+    /// How far it is.
+    pub fn phase(&self) -> Phase
+        ensures { result ≡ self.now.turn.phase }
+    {
+        self.phase
+    }
+
+    /// The rows that were read here.
+    pub fn served(&self) -> View<Row>
+        ensures { result ≡ self.now.turn.served }
+    {
+        self.served
+    }
+
+    /// Whether rows of another partition are still to come.
+    pub fn awaits(&self, config: &Config, partition: u8, from: u8) -> bool
+        ensures { result ≡ awaits (site config.now.partitions partition) self.now.turn from }
+    {
+        if self.phase == Phase::Done || !self.txn.is_active(config, partition) {
+            return false;
+        }
+        if from == partition || !self.txn.sets.reads.has_local(config, from) {
+            return false;
+        }
+        !self.came.has(from)
+    }
+
+    /// Of how many partitions rows are still to come.
+    pub fn count_awaited(&self, config: &Config, partition: u8) -> usize
+        ensures { result ≡ length (awaited (site config.now.partitions partition) self.now.turn) }
+    {
+        let mut count = 0;
+        for from in 0..config.partitions {
+            if self.awaits(config, partition, from) {
+                count += 1;
+            }
+        }
+        count
+    }
+
+    /// Whether the row of a key that is read is there: it was read here, or came from the partition that stores it.
+    fn has_piece(&self, config: &Config, partition: u8, key: &Key) -> bool
+        ensures { result ≡ (is_local (site config.now.partitions partition) key.now || is_some (map.get self.now.turn.came (partition_of config.now.partitions key.now))) }
+    {
+        let from = config.partition_of(key);
+        if from == partition {
+            return true;
+        }
+        self.came.has(from)
+    }
+
+    /// Whether all rows came that are read elsewhere.
+    pub fn is_collected(&self, config: &Config, partition: u8) -> bool
+        ensures { result ≡ is_collected (site config.now.partitions partition) self.now.turn }
+    {
+        let reads = &self.txn.sets.reads;
+        for i in 0..reads.len() {
+            if !self.has_piece(config, partition, &reads.at(i)) {
+                return false;
+            }
+        }
+        true
+    }
+
+    /// The row of a key that is read: it was read here, or came from the partition that stores it.
+    fn piece(&self, config: &Config, partition: u8, key: &Key) -> Option<Row>
+        ensures { result ≡ map.get (piece (site config.now.partitions partition) self.now.turn key.now) key.now }
+    {
+        let from = config.partition_of(key);
+        if from == partition {
+            return self.served.get(key);
+        }
+        match self.came.get(from) {
+            Some(rows) => rows.get(key),
+            None => None,
+        }
+    }
+
+    /// The rows of all keys that are read.
+    pub fn whole_view(&self, config: &Config, partition: u8) -> View<Row>
+        ensures { result ≡ whole_view (site config.now.partitions partition) self.now.turn }
+    {
+        let reads = &self.txn.sets.reads;
+        let mut whole = View::new();
+        for done in 0..reads.len() {
+            let key = reads.at(reads.len() - 1 - done);
+            match self.piece(config, partition, &key) {
+                Some(row) => whole.put(key, row),
+                None => {}
+            }
+        }
+        whole
+    }
+
+    /// Whether another partition runs the request too.
+    fn is_run_at(&self, config: &Config, partition: u8, other: u8) -> bool
+        ensures { result ≡ (not (other == partition) && is_active (site config.now.partitions other) self.now.turn.request) }
+    {
+        if other == partition {
+            return false;
+        }
+        self.txn.is_active(config, other)
+    }
+
+    /// The other partitions that run the request, ascending.
+    pub fn others(&self, config: &Config, partition: u8) -> Few<u8>
+        ensures { result ≡ other_active (site config.now.partitions partition) self.now.turn.request }
+    {
+        let mut others = Few::new();
+        for other in 0..config.partitions {
+            if self.is_run_at(config, partition, other) {
+                others.push(other);
+            }
+        }
+        others
+    }
+
+    /// Reads what is stored here. Where the request is passive here it is done, as others run it.
+    pub fn begin<S: Rows<Row>>(&mut self, config: &Config, partition: u8, rows: &S)
+        ensures turn { self.new.turn ≡ begun_turn (site config.now.partitions partition) (S.store rows.now).map self.old.turn }
+        ensures room { self.new.room ≡ self.old.room }
+    {
+        let mut served = View::new();
+        let keys = self.txn.sets.reads.part(config, partition);
+        look_up(&Reading { rows }, &keys, &mut served);
+        self.served = served;
+        self.phase = if self.txn.is_active(config, partition) {
+            Phase::Begun
+        } else {
+            Phase::Done
+        };
+    }
+
+    /// Keeps the rows that came from another partition. There is room for them.
+    pub fn receive(&mut self, from: u8, rows: &View<Row>)
+        requires { 0 < self.old.room }
+        ensures turn { self.new.turn ≡ with_rows from rows.now self.old.turn }
+        ensures room { self.new.room ≡ self.old.room - 1 }
+    {
+        self.came.insert(from, *rows);
+    }
+
+    /// It did all that it does here.
+    pub fn finish(&mut self)
+        ensures turn { self.new.turn ≡ record self.old.turn { phase = Done } }
+        ensures room { self.new.room ≡ self.old.room }
+    {
+        self.phase = Phase::Done;
+    }
+}
