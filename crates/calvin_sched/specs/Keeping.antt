@@ -3,6 +3,7 @@
 --     Kept      a request that is admitted, and for how many partitions' rows there is room
 --     Came      the rows that came from other partitions, and for how many more there is room
 --     turns_of kept      the requests without the room
+--     Seats      the requests that are admitted, and for how many more there is room
 --     awaited here x      the partitions whose rows are still to come
 use Rattle.std.specs.Prelude.{ℕ, List, map}
 use Rattle.std.specs.List.{filter, range_with_len}
@@ -29,3 +30,8 @@ module _ {Args Row : Type 0} where
 
   abbrev pub awaited : Site → Turn Args Row → List ℕ
   awaited here x = filter (awaits here x) (range_with_len 0 here.partitions)
+
+-- the requests that are admitted, and for how many more there is room
+pub record Seats (Args Row : Type 0) : Type 0 where
+  pub kept : FinMap {K = Place} place_cmp (Kept Args Row)
+  pub room : ℕ

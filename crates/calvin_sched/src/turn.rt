@@ -1,5 +1,5 @@
 //! An admitted request.
-ghost use Rattle.std.specs.Prelude.{◌≡◌, ◌<◌, ◌≤◌, ◌-◌, ◌||◌, ◌&&◌, ◌==◌, not, is_some, max, length, IsTrue, OnOk, OnErr, IsOkUnless};
+ghost use Rattle.std.specs.Prelude.{◌≡◌, ◌<◌, ◌≤◌, ◌-◌, ◌||◌, ◌&&◌, ◌==◌, not, is_some, max, length, IsTrue, IfOk, OnOk, OnErr, IsOkUnless};
 ghost use Rattle.std.specs.FinMap as map;
 ghost use Rattle.calvin_types.specs.Keys.{partition_of};
 ghost use Rattle.calvin_types.specs.Participants.{site, is_local, local_keys, is_active};
@@ -12,48 +12,53 @@ ghost use Rattle.calvin_sched.specs.declared.phase.Phase.TheVariants.{Done};
 use crate::came::Came;
 use crate::phase::Phase;
 use crate::reading::Reading;
-use calvin_app::{View, look_up};
+use calvin_app::{App, Job, View, look_up};
 use calvin_store::Rows;
-use calvin_types::{Config, Fault, Few, Key, Txn};
+use calvin_types::{Config, Fault, Few, Key, KeySet, Place, Txn};
 use std::alloc::Global;
 use std::marker::Model;
 
 /// An admitted request at one partition: how far it is, the rows that were read here, and those that came from other
 /// partitions. Contracts see also for how many more partitions' rows there is room.
 #[derive(Drop)]
-pub struct Turn<Args: Copy, Row: Copy> {
-    txn: Txn<Args>,
+pub struct Turn<A: App> {
+    job: Box<Job<A::Args, A::Row>>,
     phase: Phase,
-    served: View<Row>,
-    came: Came<Row>,
+    came: Came<A::Row>,
 }
 
-impl<Args: Copy, Row: Copy> Model for Turn<Args, Row> {
+impl<A: App> Model for Turn<A> {
     ghost use Rattle.calvin_sched.specs.Keeping.{Kept};
     ghost use Rattle.std.specs.Coded.{codes};
     ghost use Rattle.std.specs.FinMap.{code};
 
-    ghost Value = { Kept Args Row };
+    ghost Value = { Kept A.Args A.Row };
 
     ghost coded = { Prim.hlevel (codes, code) };
 
     ghost view = { λ t. record {
-      turn = record { request = t.txn; phase = t.phase; served = t.served; came = t.came.rows };
+      turn = record { request = t.job.value.txn; phase = t.phase; served = t.job.value.view; came = t.came.rows };
       room = t.came.room;
     } };
 }
 
-impl<Args: Copy, Row: Copy> Turn<Args, Row> {
-    /// A request that waits for its locks.
-    pub fn new(alloc: Global, txn: Txn<Args>) -> Turn<Args, Row>
-        ensures { result.turn ≡ new_turn txn }
+impl<A: App> Turn<A> {
+    /// A request that waits for its locks. Refused with `OutOfMemory` where there is no memory for it.
+    pub fn new(alloc: Global, place: Place, txn: &Txn<A::Args>) -> Result<Turn<A>, Fault>
+        ensures turn { IfOk result (λ k. k.turn ≡ new_turn txn.now) }
+        ensures only { IsOkUnless result Fault.OutOfMemory }
     {
-        Turn {
-            txn,
+        let job = Job {
+            place,
+            txn: *txn,
+            view: View::new(),
+        };
+        let job = Box::new(alloc, job)?;
+        Ok(Turn {
+            job,
             phase: Phase::Waiting,
-            served: View::new(),
             came: Came::new(alloc),
-        }
+        })
     }
 
     /// Room for the rows of some more partitions.
@@ -67,10 +72,17 @@ impl<Args: Copy, Row: Copy> Turn<Args, Row> {
     }
 
     /// The request.
-    pub fn txn(&self) -> &Txn<Args>
+    pub fn txn(&self) -> &Txn<A::Args>
         ensures { result.now ≡ self.now.turn.request }
     {
-        &self.txn
+        &self.job.txn
+    }
+
+    /// The keys that it reads.
+    fn reads(&self) -> &KeySet
+        ensures { result.now ≡ self.now.turn.request.sets.reads }
+    {
+        &self.job.txn.sets.reads
     }
 
     /// How far it is.
@@ -81,20 +93,20 @@ impl<Args: Copy, Row: Copy> Turn<Args, Row> {
     }
 
     /// The rows that were read here.
-    pub fn served(&self) -> View<Row>
+    pub fn served(&self) -> View<A::Row>
         ensures { result ≡ self.now.turn.served }
     {
-        self.served
+        self.job.view
     }
 
     /// Whether rows of another partition are still to come.
     pub fn awaits(&self, config: &Config, partition: u8, from: u8) -> bool
         ensures { result ≡ awaits (site config.now.partitions partition) self.now.turn from }
     {
-        if self.phase == Phase::Done || !self.txn.is_active(config, partition) {
+        if self.phase == Phase::Done || !self.job.txn.is_active(config, partition) {
             return false;
         }
-        if from == partition || !self.txn.sets.reads.has_local(config, from) {
+        if from == partition || !self.job.txn.sets.reads.has_local(config, from) {
             return false;
         }
         !self.came.has(from)
@@ -128,9 +140,9 @@ impl<Args: Copy, Row: Copy> Turn<Args, Row> {
     pub fn is_collected(&self, config: &Config, partition: u8) -> bool
         ensures { result ≡ is_collected (site config.now.partitions partition) self.now.turn }
     {
-        let reads = &self.txn.sets.reads;
-        for i in 0..reads.len() {
-            if !self.has_piece(config, partition, &reads.at(i)) {
+        let keys = self.reads();
+        for i in 0..keys.len() {
+            if !self.has_piece(config, partition, &keys.at(i)) {
                 return false;
             }
         }
@@ -138,12 +150,12 @@ impl<Args: Copy, Row: Copy> Turn<Args, Row> {
     }
 
     /// The row of a key that is read: it was read here, or came from the partition that stores it.
-    fn piece(&self, config: &Config, partition: u8, key: &Key) -> Option<Row>
+    fn piece(&self, config: &Config, partition: u8, key: &Key) -> Option<A::Row>
         ensures { result ≡ map.get (piece (site config.now.partitions partition) self.now.turn key.now) key.now }
     {
         let from = config.partition_of(key);
         if from == partition {
-            return self.served.get(key);
+            return self.job.view.get(key);
         }
         match self.came.get(from) {
             Some(rows) => rows.get(key),
@@ -152,13 +164,13 @@ impl<Args: Copy, Row: Copy> Turn<Args, Row> {
     }
 
     /// The rows of all keys that are read.
-    pub fn whole_view(&self, config: &Config, partition: u8) -> View<Row>
+    pub fn whole_view(&self, config: &Config, partition: u8) -> View<A::Row>
         ensures { result ≡ whole_view (site config.now.partitions partition) self.now.turn }
     {
-        let reads = &self.txn.sets.reads;
+        let keys = self.reads();
         let mut whole = View::new();
-        for done in 0..reads.len() {
-            let key = reads.at(reads.len() - 1 - done);
+        for done in 0..keys.len() {
+            let key = keys.at(keys.len() - 1 - done);
             match self.piece(config, partition, &key) {
                 Some(row) => whole.put(key, row),
                 None => {}
@@ -174,7 +186,7 @@ impl<Args: Copy, Row: Copy> Turn<Args, Row> {
         if other == partition {
             return false;
         }
-        self.txn.is_active(config, other)
+        self.job.txn.is_active(config, other)
     }
 
     /// The other partitions that run the request, ascending.
@@ -191,15 +203,15 @@ impl<Args: Copy, Row: Copy> Turn<Args, Row> {
     }
 
     /// Reads what is stored here. Where the request is passive here it is done, as others run it.
-    pub fn begin<S: Rows<Row>>(&mut self, config: &Config, partition: u8, rows: &S)
+    pub fn begin<S: Rows<A::Row>>(&mut self, config: &Config, partition: u8, rows: &S)
         ensures turn { self.new.turn ≡ begun_turn (site config.now.partitions partition) (S.store rows.now).map self.old.turn }
         ensures room { self.new.room ≡ self.old.room }
     {
         let mut served = View::new();
-        let keys = self.txn.sets.reads.part(config, partition);
+        let keys = self.job.txn.sets.reads.part(config, partition);
         look_up(&Reading { rows }, &keys, &mut served);
-        self.served = served;
-        self.phase = if self.txn.is_active(config, partition) {
+        self.job.view = served;
+        self.phase = if self.job.txn.is_active(config, partition) {
             Phase::Begun
         } else {
             Phase::Done
@@ -207,7 +219,7 @@ impl<Args: Copy, Row: Copy> Turn<Args, Row> {
     }
 
     /// Keeps the rows that came from another partition. There is room for them.
-    pub fn receive(&mut self, from: u8, rows: &View<Row>)
+    pub fn receive(&mut self, from: u8, rows: &View<A::Row>)
         requires { 0 < self.old.room }
         ensures turn { self.new.turn ≡ with_rows from rows.now self.old.turn }
         ensures room { self.new.room ≡ self.old.room - 1 }

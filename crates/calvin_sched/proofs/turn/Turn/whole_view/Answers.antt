@@ -13,7 +13,7 @@ use Rattle.calvin_sched.proofs.turn.Turn.whole_view.Goals.{in-Some, in-None}
 pub loop-done-init : goal.loop-done-init
 loop-done-init g c = record {
   so_far = c.new-whole.ensures ∙ sym (ap (gathered (piece (site c.args.config.now.partitions c.args.partition) c.args.self.now.turn)) (drop_all (length c.args.self.now.turn.request.sets.reads - 0) c.args.self.now.turn.request.sets.reads (omega arith)));
-  number = omega (arith, ap map.len c.new-whole.ensures, map.len-empty key_cmp g.row.Row.Denot);
+  number = omega (arith, ap map.len c.new-whole.ensures, map.len-empty key_cmp g.row.A-Row.Denot);
 }
 
 pub put-requires : goal.put-requires
@@ -22,11 +22,11 @@ put-requires g c = (search rules, omega (arith, len-insert-le c.loop-done.whole 
 pub loop-done-preserved : goal.loop-done-preserved
 loop-done-preserved g c =
     let reads = c.args.self.now.turn.request.sets.reads in
-    let same = ap (λ t. length t.turn.request.sets.reads) c.self.view_is in
+    let same = ap length c.reads-keys.ensures in
     let at = length reads - (c.loop-done.done + 1) in
     let place : at ≡ c.len.result - 1 - c.loop-done.done = omega (arith, same, c.len.ensures.len, c.len-done-end.ensures.len, c.loop-done-test.true) in
     let after : length reads - c.loop-done.done ≡ at + 1 = omega (arith, same, c.len-done-end.ensures.len, c.loop-done-test.true) in
-    let here = ap (slice_get reads) place ∙ sym (ap (λ t. slice_get t.turn.request.sets.reads (c.len.result - 1 - c.loop-done.done)) c.self.view_is) ∙ c.at-key.ensures in
+    let here = ap (slice_get reads) place ∙ ap (λ ks. slice_get ks (c.len.result - 1 - c.loop-done.done)) (sym c.reads-keys.ensures) ∙ c.at-key.ensures in
     let next = ap (λ n. gathered (piece (site c.args.config.now.partitions c.args.partition) c.args.self.now.turn) (drop n reads)) after in
     elim c.match-piece.branch [
       | in-Some w ↦ record {
@@ -42,5 +42,5 @@ loop-done-preserved g c =
 pub returns : goal.returns
 returns g c =
     let reads = c.args.self.now.turn.request.sets.reads in
-    let none : length reads - c.loop-done.done ≡ 0 = omega (arith, ap (λ t. length t.turn.request.sets.reads) c.self.view_is, c.len-done-end.ensures.len, c.loop-done-test.false) in
+    let none : length reads - c.loop-done.done ≡ 0 = omega (arith, ap length c.reads-keys.ensures, c.len-done-end.ensures.len, c.loop-done-test.false) in
     c.loop-done.invariant.so_far ∙ ap (λ n. gathered (piece (site c.args.config.now.partitions c.args.partition) c.args.self.now.turn) (drop n reads)) none
