@@ -7,6 +7,7 @@ mod law;
 mod phase;
 mod reading;
 mod turn;
+mod turns;
 
 pub use law::ready_is;
 pub use phase::Phase;
