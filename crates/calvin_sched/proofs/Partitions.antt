@@ -34,7 +34,7 @@ in_range a (suc n) k l h = go (a == k) refl (λ far. in_range (a + 1) n k (omega
     go false e rest = or_right (a == k) (list_any (λ x. x == k) (range_with_len (a + 1) n)) (rest (λ same. false≢true (sym e ∙ eq-eqb a k same)))
 
 module _ (p r : ℕ → Bool) (fewer : (k : ℕ) → r k ≡ true → p k ≡ true) where
-  no_more : (xs : List ℕ) → length (filter r xs) ≤ length (filter p xs)
+  pub no_more : (xs : List ℕ) → length (filter r xs) ≤ length (filter p xs)
   no_more [] = omega arith
   no_more (x ∷ xs) = go (r x) refl (p x) refl (no_more xs)
     where
