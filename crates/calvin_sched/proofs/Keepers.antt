@@ -1,12 +1,12 @@
 -- What is true of every scheduler stays so at each step.
-use Rattle.std.proofs.Common.{◌≡◌, ◌≢◌, ℕ, ◌+◌, ◌-◌, ◌<◌, ◌≤◌, Bool, true, false, cond, not, ◌&&◌, ◌⊎◌, inl, inr, List, [], ◌∷◌, length, Option, Some, None, refl, sym, ap, subst, ◌∙◌, arith}
+use Rattle.std.proofs.Common.{◌≡◌, ◌≢◌, Bor, ℕ, ◌+◌, ◌-◌, ◌<◌, ◌≤◌, Bool, true, false, cond, not, ◌&&◌, ◌⊎◌, inl, inr, List, [], ◌∷◌, length, Option, Some, None, refl, sym, ap, subst, ◌∙◌, arith}
 use Rattle.std.proofs.lemmas.Bool.{false≢true, and_parts, or_cases, eqb-true, eq-eqb}
 use Rattle.std.proofs.lemmas.Map.Lookups.{exact_unsigned}
 use Rattle.std.proofs.lemmas.Nat.{mod_below}
 use Rattle.std.proofs.lemmas.Option.{none-some, same_Some}
 use Rattle.std.specs.Prelude.{◌==◌, map, is_some}
 use Rattle.std.specs.List.{filter, list_any, range_with_len}
-use Rattle.std.specs.Option.{option_map}
+use Rattle.std.specs.Option.{option_map, option_copied, MatchOption}
 use Rattle.std.specs.declared.cmp.Ordering.{Ordering}
 use Rattle.std.specs.declared.cmp.Ordering.TheVariants.{Less, Equal, Greater}
 use Rattle.std.specs.Ordering.{eq_by_cmp, nat_cmp, is_lt}
@@ -21,17 +21,18 @@ use Rattle.calvin_types.specs.Places.{place_cmp, IsBefore}
 use Rattle.calvin_types.proofs.PlaceOrder.{place_total, place_exact, one_place}
 use Rattle.calvin_types.proofs.ExactMaps.{same_or_not, insert_here, insert_other}
 use Rattle.calvin_app.specs.Rows.{Rows}
+use Rattle.calvin_app.specs.Stores.{Store}
 use Rattle.calvin_lock.specs.Local.{local_sets, IsLockedAs}
-use Rattle.calvin_lock.specs.Locking.{Locking, IsUpToLast, with_request, without}
+use Rattle.calvin_lock.specs.Locking.{Locking, IsUpToLast, no_locks, with_request, without}
 use Rattle.calvin_lock.specs.Ready.{IsReady, IsPast}
-use Rattle.calvin_lock.proofs.LocalLocks.{locked_same, locked_requested, locked_released}
+use Rattle.calvin_lock.proofs.LocalLocks.{locked_none, locked_same, locked_requested, locked_released}
 use Rattle.calvin_lock.proofs.ReadyLaws.{ready_with_request, ready_without, requested_before}
 use Rattle.calvin_sched.specs.declared.phase.Phase.{Phase}
 use Rattle.calvin_sched.specs.declared.phase.Phase.TheVariants.{Waiting, Begun, Done}
 use Rattle.calvin_sched.specs.Scheduling.{Turn, Scheduling, is_before, is_past, is_finished, awaits, turn_at, with_turn}
 use Rattle.calvin_sched.specs.Standing.{unreleased, unreleased_at, unreleased_by}
 use Rattle.calvin_sched.specs.Steps.{begun_turn, with_rows}
-use Rattle.calvin_sched.specs.Keeping.{Kept, turns_of, awaited, IsScheduler}
+use Rattle.calvin_sched.specs.Keeping.{Kept, turns_of, awaited, scheduling_of, IsScheduler}
 use Rattle.calvin_sched.proofs.Partitions.{no_more, one_less}
 use Rattle.calvin_sched.proofs.Readiness.{both_true}
 
@@ -66,6 +67,13 @@ module _ {Args Row : Type 0} where
   pub turn_kept : (m : FinMap {K = Place} place_cmp (Kept Args Row)) (q : Place) (k : Kept Args Row) → get m q ≡ Some k → get (turns_of m) q ≡ Some k.turn
   turn_kept m q k is = get_turn m q ∙ ap (option_map (λ k. k.turn)) is
 
+  pub kept_turn : (m : FinMap {K = Place} place_cmp (Kept Args Row)) (q : Place) (x : Turn Args Row) → get (turns_of m) q ≡ Some x → (k : Kept Args Row) × (get m q ≡ Some k) × (k.turn ≡ x)
+  kept_turn m q x is = go (get m q) refl (sym (get_turn m q) ∙ is)
+    where
+      go : (o : Option (Kept Args Row)) → get m q ≡ o → option_map (λ (k : Kept Args Row). k.turn) (get m q) ≡ Some x → (k : Kept Args Row) × (get m q ≡ Some k) × (k.turn ≡ x)
+      go None e h = absurd (none-some x (sym (ap (option_map (λ (k : Kept Args Row). k.turn)) e) ∙ h))
+      go (Some k) e h = (k, e, same_Some k.turn x (sym (ap (option_map (λ (k : Kept Args Row). k.turn)) e) ∙ h))
+
 -- ---- what is still to come
 
 and_false : (a : Bool) → (a && false) ≡ false
@@ -94,10 +102,10 @@ module _ {Args Row : Type 0} (here : Site) (x : Turn Args Row) where
           let c = and_parts (began && is_active here x.request) (not (k == here.partition)) d.0 in
           let b = and_parts began (is_active here x.request) c.0 in
           both_true (is_run k && is_read k) (not (is_some (get x.came k)))
-            (both_true (is_run k) (is_read k)
-              (both_true (not (is_finished x.phase) && is_active here x.request) (not (k == here.partition)) (both_true (not (is_finished x.phase)) (is_active here x.request) (ap (λ f. not (is_finished f)) waits) b.1) c.1)
-              d.1)
-            e.1
+          (both_true (is_run k) (is_read k)
+          (both_true (not (is_finished x.phase) && is_active here x.request) (not (k == here.partition)) (both_true (not (is_finished x.phase)) (is_active here x.request) (ap (λ f. not (is_finished f)) waits) b.1) c.1)
+          d.1)
+          e.1
 
   -- one that is done awaits nothing
   pub done_awaits : length (awaited here (record x { phase = Done })) ≤ length (awaited here x)
@@ -180,7 +188,6 @@ module _ {Args Row : Type 0} (here : Site) (s : Scheduling Args Row) (kept : Fin
       not_waiting : k.turn.phase ≡ Begun → ⊥
       not_waiting begun = let e : Begun ≡ Waiting = sym begun ∙ waits in absurd (cc)
 
-
   -- a request that has no key here is passed over
   pub keeps_passed : (q : Place) → IsPast locking.last q → IsScheduler here (record s { last = Some q }) kept locking
   keeps_passed q past = record { locked = is.locked; asked = λ n after. past_on locking.last q n past (less_of (place_cmp q n) after); begun = is.begun; roomy = is.roomy }
@@ -214,3 +221,27 @@ module _ {Args Row : Type 0} (here : Site) (s : Scheduling Args Row) (kept : Fin
     where
       not_done : k.turn.phase ≡ Begun → ⊥
       not_done begun = let e : Begun ≡ Done = sym begun ∙ done in absurd (cc)
+
+-- ---- the opening
+
+module _ {Args Row : Type 0} (here : Site) (opened : ℕ) (store : Store Row) where
+  at_first : IsScheduler here (scheduling_of {Args = Args} opened None empty store) empty no_locks
+  at_first = record {
+    locked = locked_none here (unreleased (scheduling_of opened None empty store)) (λ n. ap unreleased_at (nothing n));
+    asked = λ q past. tt;
+    begun = λ q x there begun. absurd (none-some x (sym (nothing q) ∙ there));
+    roomy = λ q k there. absurd (none-some k (sym (get-empty place_cmp q) ∙ there));
+  }
+    where
+      nothing : (n : Place) → get (turns_of (empty {X = Kept Args Row} {R = place_cmp})) n ≡ None
+      nothing n = ap (λ m. get m n) no_turns ∙ get-empty place_cmp n
+
+  pub keeps_opened : (kept : FinMap {K = Place} place_cmp (Kept Args Row)) (locking : Locking) → kept ≡ empty → locking ≡ no_locks → IsScheduler here (scheduling_of opened None kept store) kept locking
+  keeps_opened kept locking none free = subst (λ l. IsScheduler here (scheduling_of opened None kept store) kept l) (sym free) (subst (λ m. IsScheduler here (scheduling_of opened None m store) m no_locks) (sym none) at_first)
+
+-- ---- what is found
+
+module _ {Args Row : Type 0} where
+  pub found_or_not : (t : Option (Turn Args Row)) (o : Option (Bor (Kept Args Row))) → t ≡ option_map (λ k. k.turn) (option_copied o) → MatchOption o (t ≡ None) (λ k. t ≡ Some k.now.turn)
+  found_or_not t None e = e
+  found_or_not t (Some k) e = e

@@ -5,13 +5,14 @@
 --     Seats      the requests that are admitted, and for how many more there is room
 --     turns_of kept      the requests without the room
 --     awaited here x      the partitions whose rows are still to come
+--     awaits_at here turn from      rows are still to come from a partition, for what stands at a place
 --     Scheduled      a scheduler
 --     scheduling_of opened last kept store      its data
 --     IsScheduler here s kept locking      what is true of every scheduler
 --     Did grows result deed old new      what a call made of the data, by its deed
 --     IsReadyHere here s q      an admitted request isn't done and has its locks
 --     IsFirstReadyHere here s after answer      the least such place past another
-use Rattle.std.specs.Prelude.{◌≡◌, ℕ, ◌≤◌, Bool, true, false, List, length, map, Option, Some, Result, Ok, Err, MatchOption}
+use Rattle.std.specs.Prelude.{◌≡◌, ℕ, ◌≤◌, Bool, true, false, List, length, map, Option, Some, None, Result, Ok, Err, MatchOption}
 use Rattle.std.specs.List.{filter, range_with_len}
 use Rattle.std.specs.Ordering.{nat_cmp}
 use Rattle.std.specs.FinMap.{FinMap, entries, from_entries, get}
@@ -56,6 +57,10 @@ module _ {Args Row : Type 0} where
 
   abbrev pub awaited : Site → Turn Args Row → List ℕ
   awaited here x = filter (awaits here x) (range_with_len 0 here.partitions)
+
+  abbrev pub awaits_at : Site → Option (Turn Args Row) → ℕ → Bool
+  awaits_at here None from = false
+  awaits_at here (Some x) from = awaits here x from
 
   abbrev pub scheduling_of : ℕ → Option Place → FinMap {K = Place} place_cmp (Kept Args Row) → Store Row → Scheduling Args Row
   scheduling_of opened last kept store = record { opened_from = end_of opened; last = last; turns = turns_of kept; store = store }

@@ -6,8 +6,12 @@ mod came;
 mod law;
 mod phase;
 mod reading;
+mod scheduler;
+mod serving;
 mod turn;
 mod turns;
 
 pub use law::ready_is;
 pub use phase::Phase;
+pub use scheduler::Scheduler;
+pub use serving::Serving;

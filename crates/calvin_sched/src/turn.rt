@@ -1,17 +1,18 @@
 //! An admitted request.
-ghost use Rattle.std.specs.Prelude.{◌≡◌, ◌<◌, ◌≤◌, ◌-◌, ◌||◌, ◌&&◌, ◌==◌, not, is_some, max, length, IsTrue, IfOk, OnOk, OnErr, IsOkUnless};
+ghost use Rattle.std.specs.Prelude.{◌≡◌, if◌then◌else◌, ◌<◌, ◌≤◌, ◌-◌, ◌||◌, ◌&&◌, ◌==◌, not, is_some, max, length, IsTrue, IfOk, OnOk, OnErr, IsOkUnless};
 ghost use Rattle.std.specs.FinMap as map;
 ghost use Rattle.calvin_types.specs.Keys.{partition_of};
 ghost use Rattle.calvin_types.specs.Participants.{site, is_local, local_keys, is_active};
 ghost use Rattle.calvin_app.specs.Rows.{view};
 ghost use Rattle.calvin_sched.specs.Keeping.{awaited};
 ghost use Rattle.calvin_sched.specs.Scheduling.{new_turn, is_finished, awaits, is_collected, piece, whole_view, other_active};
-ghost use Rattle.calvin_sched.specs.Steps.{begun_turn, with_rows};
-ghost use Rattle.calvin_sched.specs.declared.phase.Phase.TheVariants.{Done};
+ghost use Rattle.calvin_sched.specs.Steps.{begun_turn, serving, with_rows};
+ghost use Rattle.calvin_sched.specs.declared.phase.Phase.TheVariants.{Begun, Done};
 
 use crate::came::Came;
 use crate::phase::Phase;
 use crate::reading::Reading;
+use crate::serving::Serving;
 use calvin_app::{App, Job, View, look_up};
 use calvin_store::Rows;
 use calvin_types::{Config, Fault, Few, Key, KeySet, Place, Txn};
@@ -202,20 +203,27 @@ impl<A: App> Turn<A> {
         others
     }
 
-    /// Reads what is stored here. Where the request is passive here it is done, as others run it.
-    pub fn begin<S: Rows<A::Row>>(&mut self, config: &Config, partition: u8, rows: &S)
+    /// Reads what is stored here, and answers it. Where the request is passive here it is done, as others run it.
+    pub fn begin<S: Rows<A::Row>>(&mut self, config: &Config, partition: u8, rows: &S) -> Serving<A>
         ensures turn { self.new.turn ≡ begun_turn (site config.now.partitions partition) (S.store rows.now).map self.old.turn }
         ensures room { self.new.room ≡ self.old.room }
+        ensures serving { result ≡ serving (site config.now.partitions partition) (begun_turn (site config.now.partitions partition) (S.store rows.now).map self.old.turn) }
     {
         let mut served = View::new();
-        let keys = self.job.txn.sets.reads.part(config, partition);
-        look_up(&Reading { rows }, &keys, &mut served);
-        self.job.view = served;
-        self.phase = if self.job.txn.is_active(config, partition) {
-            Phase::Begun
-        } else {
-            Phase::Done
+        look_up(
+            &Reading { rows },
+            &self.reads().part(config, partition),
+            &mut served,
+        );
+        let serving = Serving {
+            txn: *self.txn(),
+            rows: served,
+            others: self.others(config, partition),
         };
+        let is_active = self.txn().is_active(config, partition);
+        self.job.view = served;
+        self.phase = phase_after_reading(is_active);
+        serving
     }
 
     /// Keeps the rows that came from another partition. There is room for them.
@@ -234,4 +242,11 @@ impl<A: App> Turn<A> {
     {
         self.phase = Phase::Done;
     }
+}
+
+/// How far a request is once it has read what is stored here: a passive one is done.
+fn phase_after_reading(is_active: bool) -> Phase
+    ensures { result ≡ (if is_active then Begun else Done) }
+{
+    if is_active { Phase::Begun } else { Phase::Done }
 }
