@@ -17,7 +17,8 @@ pub struct Job<Args: Copy, Row: Copy> {
     pub view: View<Row>,
 }
 
-/// What a request was answered and what it writes, beside the request and what it saw.
+/// What a request was answered and what it writes, beside the request and what it saw, as plain data: of a `Computed` a
+/// law of applications says by it that it fits in memory. None is made.
 #[derive(Clone, Copy)]
 pub struct Work<Args: Copy, Row: Copy, Reply: Copy> {
     pub job: Job<Args, Row>,
@@ -25,24 +26,33 @@ pub struct Work<Args: Copy, Row: Copy, Reply: Copy> {
     pub writes: Writes<Row>,
 }
 
+/// A request that was run: what it was answered and what it writes belong to the request and to what it saw, whoever hands
+/// it on.
+#[derive(Drop)]
+pub struct Computed<A: App> {
+    pub job: Job<A::Args, A::Row>,
+    pub answer: Answer<A::Reply>,
+    pub writes: Writes<A::Row>,
+    pub ghost answered: { answer ≡ answer_on A.meaning job.txn job.view },
+    pub ghost written: { writes ≡ writes_on A.meaning job.txn job.view },
+}
+
 impl<Args: Copy + Eq, Row: Copy + Eq> Job<Args, Row> {
     /// Runs the request on what it sees: it is answered `Changed`, and writes nothing, where its declared sets aren't
     /// those that it needs there.
     #[tactic(auto, unfolding(crate::specs::Serial::answer_on, crate::specs::Serial::writes_on))]
-    pub fn compute<A: App<Args = Args, Row = Row>>(self, app: &A) -> Work<Args, Row, A::Reply>
-        ensures job { result.job ≡ self }
-        ensures answer { result.answer ≡ answer_on A.meaning self.txn self.view }
-        ensures writes { result.writes ≡ writes_on A.meaning self.txn self.view }
+    pub fn compute<A: App<Args = Args, Row = Row>>(self, app: &A) -> Computed<A>
+        ensures { result.job ≡ self }
     {
         if !app.needs_only(&self.txn.args, &self.view, &self.txn.sets) {
-            return Work {
+            return Computed {
                 job: self,
                 answer: Answer::Changed,
                 writes: Writes::new(),
             };
         }
         let (reply, writes) = app.run(&self.txn.args, &self.view);
-        Work {
+        Computed {
             job: self,
             answer: Answer::Reply(reply),
             writes,

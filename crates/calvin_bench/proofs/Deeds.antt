@@ -23,7 +23,8 @@ use Rattle.calvin_app.specs.Stores.{put_at}
 use Rattle.calvin_app.specs.Serial.{answer_on, writes_on}
 use Rattle.calvin_sched.specs.declared.phase.Phase.{Phase}
 use Rattle.calvin_sched.specs.declared.phase.Phase.TheVariants.{Waiting, Begun, Done}
-use Rattle.calvin_sched.specs.Scheduling.{Turn, Scheduling, Job, is_before, is_past, is_finished, turn_at, with_turn, whole_view, is_collected, awaits, local_writes}
+use Rattle.calvin_app.specs.declared.job.Job.{Job}
+use Rattle.calvin_sched.specs.Scheduling.{Turn, Scheduling, is_before, is_past, is_finished, turn_at, with_turn, whole_view, is_collected, awaits, local_writes}
 use Rattle.calvin_sched.specs.Steps.{Serving, is_ready, admitted, admit, begun_turn, serving, begin_by, begin_at, begin, with_rows, on_reads_at, on_reads, job_by, job_at, job, served_by, served_at, ended, after_job, finish_with, finish}
 use Rattle.calvin_sched.specs.Standing.{unreleased_at, unreleased_by}
 use Rattle.calvin_sched.proofs.Readiness.{ready_is_ready}
@@ -123,7 +124,7 @@ module _ {Args Row : Type 0} (here : Site) (q : Place) (s : Scheduling Args Row)
     pub has_turn : HasTurn s q x
     pub begun : x.phase ≡ Begun
     pub collected : IsCollected here x
-    pub is : j ≡ record { place = q; request = x.request; whole = whole_view here x }
+    pub is : j ≡ record { place = q; txn = x.request; view = whole_view here x }
 
   ok_is : {a b : Job Args Row} → ◌≡◌ {A = Result (Job Args Row) Fault} (Ok a) (Ok b) → b ≡ a
   ok_is e = cc
@@ -138,7 +139,7 @@ module _ {Args Row : Type 0} (here : Site) (q : Place) (s : Scheduling Args Row)
       at_turn x is Waiting begun e = absurd (err_not e)
       at_turn x is Begun begun e = by_test (is_collected here x) refl e
         where
-          by_test : (b : Bool) → is_collected here x ≡ b → cond b (Ok (record { place = q; request = x.request; whole = whole_view here x })) (Err Rattle.calvin_types.specs.declared.fault.Fault.TheVariants.ReadsMissing) ≡ Ok j → (x : Turn Args Row) × JobIs x j
+          by_test : (b : Bool) → is_collected here x ≡ b → cond b (Ok (record { place = q; txn = x.request; view = whole_view here x })) (Err Rattle.calvin_types.specs.declared.fault.Fault.TheVariants.ReadsMissing) ≡ Ok j → (x : Turn Args Row) × JobIs x j
           by_test true all e = (x, record { has_turn = is; begun = begun; collected = collected_of x all; is = ok_is e })
           by_test false all e = absurd (err_not e)
       at_turn x is Done begun e = absurd (err_not e)
@@ -158,18 +159,18 @@ module _ {Args Row : Type 0} (here : Site) (q : Place) (s : Scheduling Args Row)
             let x = found.0 in
             let known = found.1 in
             let both = does_is e in
-            let answers : out.1 ≡ answer_on m j.request j.whole = ap (λ (o : Txn Args × Answer Reply). o.1) both.1 in
+            let answers : out.1 ≡ answer_on m j.txn j.view = ap (λ (o : Txn Args × Answer Reply). o.1) both.1 in
             let asked : out.0 ≡ j.request = ap (λ (o : Txn Args × Answer Reply). o.0) both.1 in (
               record {
                 turn = x;
                 has_turn = known.has_turn;
                 begun = known.begun;
                 collected = known.collected;
-                answers = answers ∙ ap (λ (j : Job Args Row). answer_on m j.request j.whole) known.is;
+                answers = answers ∙ ap (λ (j : Job Args Row). answer_on m j.txn j.view) known.is;
                 now = both.0 ∙ ap (λ (j : Job Args Row). after_job m here j s) known.is
                     ∙ ap (λ (o : Option (Turn Args Row)). record s { turns = ended o s.turns q; store = put_at q (local_writes here (writes_on m x.request (whole_view here x))) s.store }) known.has_turn;
               },
-              asked ∙ ap (λ (j : Job Args Row). j.request) known.is,
+              asked ∙ ap (λ (j : Job Args Row). j.txn) known.is,
             )
 
 -- what is served again was served by a request that began

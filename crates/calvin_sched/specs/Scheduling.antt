@@ -32,12 +32,6 @@ pub record Scheduling (Args Row : Type 0) : Type 0 where
   pub turns : FinMap {K = Place} place_cmp (Turn Args Row)
   pub store : Store Row
 
--- what is run, outside of any lock: a request at its place, on the rows of all keys that it reads
-pub record Job (Args Row : Type 0) : Type 0 where
-  pub place : Place
-  pub request : Txn Args
-  pub whole : Rows Row
-
 -- ---- places and phases
 
 abbrev pub is_before : Place → Place → Bool

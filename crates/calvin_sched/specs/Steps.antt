@@ -13,13 +13,14 @@ use Rattle.calvin_types.specs.Keys.{has}
 use Rattle.calvin_types.specs.Places.{place_cmp}
 use Rattle.calvin_types.specs.Participants.{Site, is_local, local_keys, has_local_key, is_active}
 use Rattle.calvin_app.specs.declared.answer.Answer.{Answer}
+use Rattle.calvin_app.specs.declared.job.Job.{Job}
 use Rattle.calvin_app.specs.Meaning.{Meaning}
 use Rattle.calvin_app.specs.Rows.{Rows, view}
 use Rattle.calvin_app.specs.Stores.{put_at}
 use Rattle.calvin_app.specs.Serial.{answer_on, writes_on}
 use Rattle.calvin_sched.specs.declared.phase.Phase.{Phase}
 use Rattle.calvin_sched.specs.declared.phase.Phase.TheVariants.{Waiting, Begun, Done}
-use Rattle.calvin_sched.specs.Scheduling.{Turn, Scheduling, Job, is_before, is_past, is_finished, whole_view, is_collected, awaits, new_turn, turn_at, with_turn, other_active, local_writes}
+use Rattle.calvin_sched.specs.Scheduling.{Turn, Scheduling, is_before, is_past, is_finished, whole_view, is_collected, awaits, new_turn, turn_at, with_turn, other_active, local_writes}
 
 -- whether one writes a key stored here that the other reads or writes
 abbrev pub conflict_at : Site → Sets → Sets → Bool
@@ -95,7 +96,7 @@ module _ {Args Row : Type 0} where
 
   abbrev pub job_by : Site → Place → Turn Args Row → Phase → Result (Job Args Row) Fault
   job_by here q x Waiting = Err fault.NotReady
-  job_by here q x Begun = if is_collected here x then Ok (record { place = q; request = x.request; whole = whole_view here x }) else Err fault.ReadsMissing
+  job_by here q x Begun = if is_collected here x then Ok (record { place = q; txn = x.request; view = whole_view here x }) else Err fault.ReadsMissing
   job_by here q x Done = Err fault.NotReady
 
   abbrev pub job_at : Site → Place → Option (Turn Args Row) → Result (Job Args Row) Fault
@@ -127,7 +128,7 @@ module _ {Args Row : Type 0} where
 module _ {Args Row Reply : Type 0} (m : Meaning Args Row Reply) where
   -- what is stored here of what the job writes is put into the rows, and its place is done
   abbrev pub after_job : Site → Job Args Row → Scheduling Args Row → Scheduling Args Row
-  after_job here j s = record s { turns = ended (turn_at s j.place) s.turns j.place; store = put_at j.place (local_writes here (writes_on m j.request j.whole)) s.store }
+  after_job here j s = record s { turns = ended (turn_at s j.place) s.turns j.place; store = put_at j.place (local_writes here (writes_on m j.txn j.view)) s.store }
 
   -- what a finished request answers: the request, and the reply to it
   abbrev pub Ended : Type 0
@@ -135,17 +136,8 @@ module _ {Args Row Reply : Type 0} (m : Meaning Args Row Reply) where
 
   abbrev pub finish_with : Site → Scheduling Args Row → Result (Job Args Row) Fault → Deed (Scheduling Args Row) Ended
   finish_with here s (Err f) = Refuses f
-  finish_with here s (Ok j) = Does (after_job here j s) (j.request, answer_on m j.request j.whole)
+  finish_with here s (Ok j) = Does (after_job here j s) (j.txn, answer_on m j.txn j.view)
 
   -- the request at a place is run on its whole view, and writes, in one step
   abbrev pub finish : Site → Place → Scheduling Args Row → Deed (Scheduling Args Row) Ended
   finish here q s = finish_with here s (job here q s)
-
-  -- a job that was run outside has to be the one that stands here
-  abbrev pub finish_same : (Job Args Row → Job Args Row → Bool) → Site → Job Args Row → Scheduling Args Row → Result (Job Args Row) Fault → Deed (Scheduling Args Row) Ended
-  finish_same is_same here j s (Err f) = Refuses fault.NotCollected
-  finish_same is_same here j s (Ok own) = if is_same j own then Does (after_job here own s) (own.request, answer_on m own.request own.whole) else Refuses fault.StaleJob
-
-  -- the same for a job that was run outside, by a test of what is the same job
-  abbrev pub finish_job : (Job Args Row → Job Args Row → Bool) → Site → Job Args Row → Scheduling Args Row → Deed (Scheduling Args Row) Ended
-  finish_job is_same here j s = finish_same is_same here j s (job here j.place s)

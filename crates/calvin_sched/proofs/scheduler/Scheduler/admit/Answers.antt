@@ -1,0 +1,59 @@
+use Rattle.calvin_lock.specs.Locking.{with_request}
+use Rattle.std.proofs.Common.{rules, ◌≡◌, cond, length, ◌≤◌, Bool, true, false, Some, None, Ok, Err, inl, inr, refl, sym, ap, subst, ◌∙◌}
+use Rattle.std.proofs.lemmas.Bool.{and_parts}
+use Rattle.std.proofs.lemmas.Result.{err_from_is_err_and}
+use Rattle.calvin_types.specs.declared.fault.Fault.TheVariants as fault
+use Rattle.calvin_types.specs.Deeds.{Does, Refuses}
+use Rattle.calvin_sched.specs.Steps.{admitted}
+use Rattle.std.specs.FinMap.{insert}
+use Rattle.calvin_types.specs.Participants.{site, has_local_key}
+use Rattle.calvin_lock.proofs.LocalLocks.{some_local_key}
+use Rattle.calvin_sched.specs.Keeping.{scheduling_of, turns_of, awaited, IsScheduler, Did}
+use Rattle.calvin_sched.specs.Scheduling.{is_past, is_before, with_turn, new_turn}
+use Rattle.calvin_order.specs.Merged.{end_of}
+use Rattle.calvin_sched.proofs.Keepers.{put_turn}
+use Rattle.calvin_sched.proofs.Admitting.{admitted_keeps}
+use Rattle.calvin_sched.proofs.scheduler.Scheduler.admit.Goals as goal
+
+pub returns-in_err-request-clause-did : goal.returns-in_err-request-clause-did
+returns-in_err-request-clause-did g c =
+    let here = site c.self.inside.config.partitions c.self.inside.partition in
+    let next = sym c.is_next.ensures ∙ c.if-not-is_next.false in
+    let past = c.self.invariant.asked c.args.place (ap (λ v. is_past v.scheduling.last c.args.place) c.self.view_is ∙ (and_parts _ _ next).0) in
+    let local = sym c.is_participant.ensures ∙ c.if-not-is_participant.false in
+    let refused = c.in_err-request.ensures in
+    let memory : c.in_err-request.field-0.0 ≡ fault.OutOfMemory = elim refused.only [
+      | inl e ↦ absurd (refused.out_of_order.0 (ap Err e) past)
+      | inr (inl e) ↦ let none = (refused.no_keys.0 (ap Err e)).1 in absurd (some_local_key here c.args.txn.now.sets.reads c.args.txn.now.sets.writes local (sym c.part-reads.ensures ∙ none.0, sym c.part-writes.ensures ∙ none.1))
+      | inr (inr e) ↦ e
+    ] in
+    let p = err_from_is_err_and c.from_residual-in_err-request.result c.from_residual-in_err-request.ensures.1 in
+    let same = ap (λ t. scheduling_of c.self.inside.opened c.self.inside.last t.kept (g.S.Rows.store c.self.inside.rows)) c.in_ok-reserve.ensures.ok ∙ ap (λ v. v.scheduling) c.self.view_is in
+    let does = ap (λ b. cond b (Does (admitted c.args.self.now.here c.args.self.now.scheduling c.args.place c.args.txn.now) tt) (Refuses fault.AdmittedOutOfOrder)) next in
+    subst (λ d. Did (has_local_key c.args.self.now.here c.args.txn.now) c.from_residual-in_err-request.result d c.args.self.now.scheduling (scheduling_of c.self.inside.opened c.self.inside.last c.reserve.new.self.kept (g.S.Rows.store c.self.inside.rows))) (sym does)
+    (subst (λ r. Did (has_local_key c.args.self.now.here c.args.txn.now) r (Does (admitted c.args.self.now.here c.args.self.now.scheduling c.args.place c.args.txn.now) tt) c.args.self.now.scheduling (scheduling_of c.self.inside.opened c.self.inside.last c.reserve.new.self.kept (g.S.Rows.store c.self.inside.rows))) (sym p.1)
+    (ap (λ v. has_local_key v.here c.args.txn.now) (sym c.self.view_is) ∙ local, p.2 ∙ memory, same))
+
+pub invariant_of-self-2 : goal.invariant_of-self-2
+invariant_of-self-2 g c =
+    admitted_keeps (site c.self.inside.config.partitions c.self.inside.partition) c.self.inside.opened c.self.inside.last c.self.inside.turns.kept (g.S.Rows.store c.self.inside.rows) (g.L.Locks.kept c.self.inside.locks) c.self.invariant
+    c.args.place c.args.txn.now c.in_ok-turn.turn
+    (ap (λ v. is_past v.scheduling.last c.args.place) c.self.view_is ∙ (and_parts _ _ (sym c.is_next.ensures ∙ c.if-not-is_next.false)).0)
+    c.in_ok-turn.ensures.turn (subst (λ v. length (awaited v.here c.in_ok-turn.turn.turn) ≤ c.in_ok-turn.turn.room) (sym c.self.view_is) c.in_ok-turn.ensures.room) c.up_to_last.ensures c.insert.new.self.kept
+    (ap (λ t. t.kept) c.insert.ensures ∙ ap (λ t. insert t.kept c.args.place c.in_ok-turn.turn) c.in_ok-reserve.ensures.ok)
+    (g.L.Locks.kept c.request.new.self) (c.in_ok-request.ensures.ok ∙ (λ i. with_request c.args.place (record { reads = c.part-reads.ensures i; writes = c.part-writes.ensures i }) (g.L.Locks.kept c.self.inside.locks)))
+
+pub returns-clause-did : goal.returns-clause-did
+returns-clause-did g c =
+    let here = site c.self.inside.config.partitions c.self.inside.partition in
+    let store = g.S.Rows.store c.self.inside.rows in
+    let s = scheduling_of c.self.inside.opened c.self.inside.last c.self.inside.turns.kept store in
+    let next = sym c.is_next.ensures ∙ c.if-not-is_next.false in
+    let local = sym c.is_participant.ensures ∙ c.if-not-is_participant.false in
+    let put = ap (λ t. t.kept) c.insert.ensures ∙ ap (λ t. insert t.kept c.args.place c.in_ok-turn.turn) c.in_ok-reserve.ensures.ok in
+    let turns = ap turns_of put ∙ put_turn c.self.inside.turns.kept c.args.place c.in_ok-turn.turn ∙ ap (insert (turns_of c.self.inside.turns.kept) c.args.place) c.in_ok-turn.ensures.turn in
+    let waiting : scheduling_of c.self.inside.opened (Some c.args.place) c.insert.new.self.kept store ≡ record (with_turn s c.args.place (new_turn c.args.txn.now)) { last = Some c.args.place } = λ i. record { opened_from = end_of c.self.inside.opened; last = Some c.args.place; turns = turns i; store = store } in
+    let asked = sym (ap (λ b. record (cond b (with_turn s c.args.place (new_turn c.args.txn.now)) s) { last = Some c.args.place }) local) in
+    let new = waiting ∙ asked ∙ ap (λ v. admitted v.here v.scheduling c.args.place c.args.txn.now) c.self.view_is in
+    let does = ap (λ b. cond b (Does (admitted c.args.self.now.here c.args.self.now.scheduling c.args.place c.args.txn.now) tt) (Refuses fault.AdmittedOutOfOrder)) next in
+    subst (λ d. Did (has_local_key c.args.self.now.here c.args.txn.now) (Ok tt) d c.args.self.now.scheduling (scheduling_of c.self.inside.opened (Some c.args.place) c.insert.new.self.kept store)) (sym does) (refl, new)

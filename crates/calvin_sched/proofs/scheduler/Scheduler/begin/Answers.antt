@@ -1,0 +1,85 @@
+use Rattle.std.proofs.Common.{rules, Bool, true, false, Some, None, refl, sym, ap, subst, ◌∙◌}
+use Rattle.std.proofs.lemmas.Option.{none-some, same_Some}
+use Rattle.calvin_types.specs.Participants.{site, is_active}
+use Rattle.calvin_sched.specs.Keeping.{scheduling_of, IsScheduler, Did}
+use Rattle.calvin_sched.specs.Scheduling.{turn_at, is_finished, with_turn}
+use Rattle.calvin_sched.specs.Steps.{begun_turn, serving, is_ready}
+use Rattle.calvin_sched.proofs.Begins.{it_begins}
+use Rattle.calvin_sched.proofs.Keepers.{kept_turn, turn_kept}
+use Rattle.calvin_sched.proofs.ReadyHere.{ready_of}
+use Rattle.calvin_sched.proofs.Steps.{after_is, keeps_active, keeps_passive, if_ok}
+use Rattle.calvin_sched.proofs.scheduler.Scheduler.begin.Goals as goal
+use Rattle.calvin_sched.proofs.scheduler.Scheduler.begin.Goals.{then-not-is_active, else-not-is_active}
+
+pub invariant_of-self : goal.invariant_of-self
+invariant_of-self g c =
+    let here = site c.self.inside.config.partitions c.self.inside.partition in
+    let s = scheduling_of c.self.inside.opened c.self.inside.last c.self.inside.turns.kept (g.S.Rows.store c.self.inside.rows) in
+    let told = c.in_ok-is_active.ensures.ok in
+    let kept = kept_turn c.self.inside.turns.kept c.args.place told.0 (ap (λ v. turn_at v.scheduling c.args.place) c.self.view_is ∙ told.1) in
+    let begun = c.begin.ensures.some kept.0 kept.1 in
+    absurd (none-some _ (sym c.in_default.is ∙ begun.0))
+
+pub returns-in_default-clause-did : goal.returns-in_default-clause-did
+returns-in_default-clause-did g c =
+    let here = site c.self.inside.config.partitions c.self.inside.partition in
+    let s = scheduling_of c.self.inside.opened c.self.inside.last c.self.inside.turns.kept (g.S.Rows.store c.self.inside.rows) in
+    let told = c.in_ok-is_active.ensures.ok in
+    let kept = kept_turn c.self.inside.turns.kept c.args.place told.0 (ap (λ v. turn_at v.scheduling c.args.place) c.self.view_is ∙ told.1) in
+    let begun = c.begin.ensures.some kept.0 kept.1 in
+    absurd (none-some _ (sym c.in_default.is ∙ begun.0))
+
+pub invariant_of-self-then-not-is_active : goal.invariant_of-self-then-not-is_active
+invariant_of-self-then-not-is_active g c =
+    let here = site c.self.inside.config.partitions c.self.inside.partition in
+    let s = scheduling_of c.self.inside.opened c.self.inside.last c.self.inside.turns.kept (g.S.Rows.store c.self.inside.rows) in
+    let told = c.in_ok-is_active.ensures.ok in
+    let kept = kept_turn c.self.inside.turns.kept c.args.place told.0 (ap (λ v. turn_at v.scheduling c.args.place) c.self.view_is ∙ told.1) in
+    let begun = c.begin.ensures.some kept.0 kept.1 in
+    let waits = ap (λ y. y.phase) kept.2 ∙ told.2 in
+    let ready = ap (λ y. is_ready here s c.args.place y.request) kept.2 ∙ ap (λ v. is_ready v.here v.scheduling c.args.place told.0.request) c.self.view_is ∙ told.3 in
+    let active = ap (λ y. is_active here y.request) kept.2 ∙ ap (λ v. is_active v.here told.0.request) c.self.view_is ∙ sym told.4 in
+    let locked = (ready_of here s c.self.inside.turns.kept (g.L.Locks.kept c.self.inside.locks) c.self.invariant c.args.place kept.0.turn (turn_kept c.self.inside.turns.kept c.args.place kept.0 kept.1) (ap is_finished waits)).1 ready in
+    let released = if_ok c.release-released.result (c.release-released.ensures.held.1 locked) c.release-released.ensures.ok in
+    subst (λ l. IsScheduler here (scheduling_of c.self.inside.opened c.self.inside.last c.begin.new.self.kept (g.S.Rows.store c.self.inside.rows)) c.begin.new.self.kept l) (sym released)
+    (keeps_passive here c.self.inside.opened c.self.inside.last c.self.inside.turns.kept (g.S.Rows.store c.self.inside.rows) (g.L.Locks.kept c.self.inside.locks) c.self.invariant c.args.place kept.0 kept.1
+    waits c.begin.new.self.kept (ap (λ t. t.kept) begun.1) (active ∙ c.if-not-is_active.true))
+
+pub invariant_of-self-else-not-is_active : goal.invariant_of-self-else-not-is_active
+invariant_of-self-else-not-is_active g c =
+    let here = site c.self.inside.config.partitions c.self.inside.partition in
+    let s = scheduling_of c.self.inside.opened c.self.inside.last c.self.inside.turns.kept (g.S.Rows.store c.self.inside.rows) in
+    let told = c.in_ok-is_active.ensures.ok in
+    let kept = kept_turn c.self.inside.turns.kept c.args.place told.0 (ap (λ v. turn_at v.scheduling c.args.place) c.self.view_is ∙ told.1) in
+    let begun = c.begin.ensures.some kept.0 kept.1 in
+    let waits = ap (λ y. y.phase) kept.2 ∙ told.2 in
+    let ready = ap (λ y. is_ready here s c.args.place y.request) kept.2 ∙ ap (λ v. is_ready v.here v.scheduling c.args.place told.0.request) c.self.view_is ∙ told.3 in
+    let active = ap (λ y. is_active here y.request) kept.2 ∙ ap (λ v. is_active v.here told.0.request) c.self.view_is ∙ sym told.4 in
+    keeps_active here c.self.inside.opened c.self.inside.last c.self.inside.turns.kept (g.S.Rows.store c.self.inside.rows) (g.L.Locks.kept c.self.inside.locks) c.self.invariant c.args.place kept.0 kept.1
+    waits c.begin.new.self.kept (ap (λ t. t.kept) begun.1) (active ∙ c.if-not-is_active.false) ready
+
+pub returns-clause-did : goal.returns-clause-did
+returns-clause-did g c =
+    let here = site c.self.inside.config.partitions c.self.inside.partition in
+    let s = scheduling_of c.self.inside.opened c.self.inside.last c.self.inside.turns.kept (g.S.Rows.store c.self.inside.rows) in
+    let told = c.in_ok-is_active.ensures.ok in
+    let kept = kept_turn c.self.inside.turns.kept c.args.place told.0 (ap (λ v. turn_at v.scheduling c.args.place) c.self.view_is ∙ told.1) in
+    let begun = c.begin.ensures.some kept.0 kept.1 in
+    let x = told.0 in
+    let out = same_Some _ _ (sym c.in-Some.is ∙ begun.0) ∙ ap (λ y. serving here (begun_turn here s.store.map y)) kept.2 ∙ ap (λ v. serving v.here (begun_turn v.here v.scheduling.store.map x)) c.self.view_is in
+    let after = after_is here c.self.inside.opened c.self.inside.last c.self.inside.turns.kept (g.S.Rows.store c.self.inside.rows) (g.L.Locks.kept c.self.inside.locks) c.self.invariant c.args.place kept.0 kept.1
+    (record { turn = begun_turn here s.store.map kept.0.turn; room = kept.0.room }) c.begin.new.self.kept (ap (λ t. t.kept) begun.1) in
+    let new = after ∙ ap (λ y. with_turn s c.args.place (begun_turn here s.store.map y)) kept.2 ∙ ap (λ v. with_turn v.scheduling c.args.place (begun_turn v.here v.scheduling.store.map x)) c.self.view_is in
+    subst (λ d. Did false (Rattle.std.proofs.Common.Ok c.in-Some.serving) d c.args.self.now.scheduling c.if-not-is_active.self.scheduling) (sym (it_begins c.args.self.now.here c.args.self.now.scheduling c.args.place x told.1 told.2 told.3)) (
+      out,
+      elim c.if-not-is_active.branch [
+        | then-not-is_active w ↦ ap (λ v. v.scheduling) w.self-is ∙ new
+        | else-not-is_active w ↦ ap (λ v. v.scheduling) w.self-is ∙ new
+      ],
+    )
+
+pub returns-clause-rest : goal.returns-clause-rest
+returns-clause-rest g c = elim c.if-not-is_active.branch [
+  | then-not-is_active w ↦ w.self-is ∙ (λ i. record { here = (c.self.view_is i).here; scheduling = (sym w.self-is i).scheduling; room = (c.self.view_is i).room })
+  | else-not-is_active w ↦ w.self-is ∙ (λ i. record { here = (c.self.view_is i).here; scheduling = (sym w.self-is i).scheduling; room = (c.self.view_is i).room })
+]

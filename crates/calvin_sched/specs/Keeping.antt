@@ -1,0 +1,90 @@
+-- What a scheduler in code keeps: the data of its partition, and for what it needs no more memory (Thomson et al. 2012,
+-- sections 3.2 and 3.3).
+--     Came      the rows that came from other partitions, and for how many more there is room
+--     Kept      a request that is admitted, and for how many partitions' rows there is room
+--     Seats      the requests that are admitted, and for how many more there is room
+--     turns_of kept      the requests without the room
+--     awaited here x      the partitions whose rows are still to come
+--     awaits_at here turn from      rows are still to come from a partition, for what stands at a place
+--     Scheduled      a scheduler
+--     scheduling_of opened last kept store      its data
+--     IsScheduler here s kept locking      what is true of every scheduler
+--     Did grows result deed old new      what a call made of the data, by its deed
+--     IsReadyHere here s q      an admitted request isn't done and has its locks
+--     IsFirstReadyHere here s after answer      the least such place past another
+use Rattle.std.specs.Prelude.{◌≡◌, ℕ, ◌≤◌, Bool, true, false, List, length, map, Option, Some, None, Result, Ok, Err, MatchOption}
+use Rattle.std.specs.List.{filter, range_with_len}
+use Rattle.std.specs.Ordering.{nat_cmp}
+use Rattle.std.specs.FinMap.{FinMap, entries, from_entries, get}
+use Rattle.calvin_types.specs.declared.fault.Fault.{Fault}
+use Rattle.calvin_types.specs.declared.fault.Fault.TheVariants.{OutOfMemory}
+use Rattle.calvin_types.specs.declared.place.Place.{Place}
+use Rattle.calvin_types.specs.Deeds.{Deed, Refuses, Does}
+use Rattle.calvin_types.specs.Participants.{Site}
+use Rattle.calvin_types.specs.Places.{place_cmp, IsBefore}
+use Rattle.calvin_app.specs.Rows.{Rows}
+use Rattle.calvin_app.specs.Stores.{Store}
+use Rattle.calvin_order.specs.Merged.{end_of}
+use Rattle.calvin_lock.specs.Local.{IsLockedAs}
+use Rattle.calvin_lock.specs.Locking.{Locking}
+use Rattle.calvin_lock.specs.Ready.{IsReady, IsPast}
+use Rattle.calvin_sched.specs.declared.phase.Phase.TheVariants.{Begun}
+use Rattle.calvin_sched.specs.Scheduling.{Turn, Scheduling, is_past, is_finished, awaits, turn_at}
+use Rattle.calvin_sched.specs.Standing.{unreleased}
+use Rattle.calvin_sched.specs.Steps.{is_ready}
+
+pub record Came (Row : Type 0) : Type 0 where
+  pub rows : FinMap {K = ℕ} nat_cmp (Rows Row)
+  pub room : ℕ
+
+pub record Kept (Args Row : Type 0) : Type 0 where
+  pub turn : Turn Args Row
+  pub room : ℕ
+
+pub record Seats (Args Row : Type 0) : Type 0 where
+  pub kept : FinMap {K = Place} place_cmp (Kept Args Row)
+  pub room : ℕ
+
+-- its partition, the data, and how many rows can be put without growing
+pub record Scheduled (Args Row : Type 0) : Type 0 where
+  pub here : Site
+  pub scheduling : Scheduling Args Row
+  pub room : ℕ
+
+module _ {Args Row : Type 0} where
+  abbrev pub turns_of : FinMap {K = Place} place_cmp (Kept Args Row) → FinMap {K = Place} place_cmp (Turn Args Row)
+  turns_of kept = from_entries (map (λ e. (e.0, e.1.turn)) (entries kept))
+
+  abbrev pub awaited : Site → Turn Args Row → List ℕ
+  awaited here x = filter (awaits here x) (range_with_len 0 here.partitions)
+
+  abbrev pub awaits_at : Site → Option (Turn Args Row) → ℕ → Bool
+  awaits_at here None from = false
+  awaits_at here (Some x) from = awaits here x from
+
+  abbrev pub scheduling_of : ℕ → Option Place → FinMap {K = Place} place_cmp (Kept Args Row) → Store Row → Scheduling Args Row
+  scheduling_of opened last kept store = record { opened_from = end_of opened; last = last; turns = turns_of kept; store = store }
+
+  pub record IsScheduler (here : Site) (s : Scheduling Args Row) (kept : FinMap {K = Place} place_cmp (Kept Args Row)) (locking : Locking) : Type 0 where
+    -- the lock manager was asked for what is admitted and not done, by the keys that are stored here
+    pub locked : IsLockedAs here (unreleased s) locking.requested
+    -- and for no place past the last one
+    pub asked : (q : Place) → is_past s.last q ≡ true → IsPast locking.last q
+    -- what has begun has its locks
+    pub begun : (q : Place) (x : Turn Args Row) → turn_at s q ≡ Some x → x.phase ≡ Begun → IsReady locking.requested q
+    -- there is room for all rows that are still to come
+    pub roomy : (q : Place) (k : Kept Args Row) → get kept q ≡ Some k → length (awaited here k.turn) ≤ k.room
+
+  abbrev pub IsReadyHere : Site → Scheduling Args Row → Place → Type 0
+  IsReadyHere here s q = (x : Turn Args Row) × (turn_at s q ≡ Some x) × (is_finished x.phase ≡ false) × (is_ready here s q x.request ≡ true)
+
+  abbrev pub IsFirstReadyHere : Site → Scheduling Args Row → Option Place → Option Place → Type 0
+  IsFirstReadyHere here s after answer = MatchOption answer ((q : Place) → IsPast after q → ¬ IsReadyHere here s q)
+      (λ p. IsPast after p × IsReadyHere here s p × ((q : Place) → IsPast after q → IsReadyHere here s q → ¬ IsBefore q p))
+
+-- the deed takes effect; or it is its refusal, and nothing changed; or memory ran out, where something grows, and nothing changed
+abbrev pub Did : {S Out : Type 0} → Bool → Result Out Fault → Deed S Out → S → S → Type 0
+Did grows (Ok out) (Refuses fault) old new = ⊥
+Did grows (Ok out) (Does next given) old new = (out ≡ given) × (new ≡ next)
+Did grows (Err refusal) (Refuses fault) old new = (refusal ≡ fault) × (new ≡ old)
+Did grows (Err refusal) (Does next given) old new = (grows ≡ true) × (refusal ≡ OutOfMemory) × (new ≡ old)

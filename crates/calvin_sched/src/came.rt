@@ -1,0 +1,85 @@
+//! The rows that came from other partitions.
+ghost use Rattle.std.specs.Prelude.{◌≡◌, ◌-◌, ◌<◌, ◌≤◌, max, is_some, IsOk, OnOk, OnErr, IsOkUnless};
+ghost use Rattle.std.specs.Option.{option_copied};
+ghost use Rattle.std.specs.FinMap as map;
+
+use calvin_app::View;
+use calvin_types::Fault;
+use std::alloc::Global;
+use std::collections::HashMap;
+use std::marker::Model;
+
+/// At most one view of each partition. Room for some more can be reserved.
+#[derive(Drop)]
+pub struct Came<Row> {
+    views: HashMap<u8, View<Row>>,
+    room: usize,
+}
+
+impl<Row> Model for Came<Row> {
+    ghost use Rattle.std.specs.Prelude.{◌≤◌};
+    ghost use Rattle.std.specs.FinMap.{from_entries};
+    ghost use Rattle.std.specs.HashMap.{spare};
+    ghost use Rattle.std.specs.Coded.{codes};
+    ghost use Rattle.std.specs.FinMap.{code};
+    ghost use Rattle.calvin_sched.specs.Keeping as keeping;
+
+    ghost Value = { keeping.Came Row };
+
+    ghost coded = { Prim.hlevel (codes, code) };
+
+    ghost view = { λ c. record { rows = from_entries c.views.entries; room = c.room } };
+
+    ghost invariant = { λ c. c.room ≤ spare c.views };
+}
+
+impl<Row: Copy> Came<Row> {
+    /// No rows, and room for none.
+    pub fn new(alloc: Global) -> Came<Row>
+        ensures { result ≡ record { rows = map.empty; room = 0 } }
+    {
+        Came {
+            views: HashMap::new(alloc),
+            room: 0,
+        }
+    }
+
+    /// The rows of a partition.
+    pub fn get(&self, partition: u8) -> Option<&View<Row>>
+        ensures { option_copied result ≡ map.get self.now.rows partition }
+    {
+        self.views.get(&partition)
+    }
+
+    /// Whether rows of a partition came.
+    pub fn has(&self, partition: u8) -> bool
+        ensures { result ≡ is_some (map.get self.now.rows partition) }
+    {
+        self.views.contains_key(&partition)
+    }
+
+    /// Puts the rows of a partition. There is room for them.
+    pub fn insert(&mut self, partition: u8, view: View<Row>)
+        requires { 0 < self.old.room }
+        ensures { self.new ≡ record { rows = map.insert self.old.rows partition view; room = self.old.room - 1 } }
+    {
+        let put: Result<_, _> = self.views.insert(partition, view);
+        let _before = put.unwrap();
+        self.room -= 1;
+    }
+
+    /// Room for the rows of so many partitions at least.
+    pub fn reserve(&mut self, partitions: usize) -> Result<(), Fault>
+        ensures ok { OnOk result (self.new ≡ record self.old { room = max partitions self.old.room }) }
+        ensures err { OnErr result (self.new ≡ self.old) }
+        ensures only { IsOkUnless result Fault.OutOfMemory }
+        ensures succeeds { partitions ≤ self.old.room → IsOk result }
+    {
+        if partitions <= self.room {
+            return Ok(());
+        }
+        self.views.reserve(partitions)?;
+        self.room = partitions;
+        Ok(())
+    }
+}

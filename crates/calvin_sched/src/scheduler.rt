@@ -1,0 +1,222 @@
+//! The scheduler of one partition.
+ghost use Rattle.std.specs.Prelude.{◌≡◌, ◌&&◌, ◌≤◌, false, true, None, Some, MatchOption, not, max, length, IfOk, IfErr, OnOk, OnErr, IsOk, IsOkUnless};
+ghost use Rattle.std.specs.FinMap as map;
+ghost use Rattle.calvin_types.specs.Deeds.{Refuses};
+ghost use Rattle.calvin_types.specs.Participants.{site, has_local_key, is_active};
+ghost use Rattle.calvin_order.specs.Merged.{end_of};
+ghost use Rattle.calvin_sched.specs.Keeping.{Did, awaited, awaits_at, IsFirstReadyHere};
+ghost use Rattle.calvin_sched.specs.Scheduling.{Turn as Turning, new_turn, opened, is_past, is_before, turn_at};
+ghost use Rattle.calvin_sched.specs.Steps as steps;
+ghost use Rattle.calvin_sched.specs.declared.phase.Phase.TheVariants.{Waiting};
+
+use crate::phase::Phase;
+use crate::serving::Serving;
+use crate::turn::Turn;
+use crate::turns::Turns;
+use calvin_app::{App, View};
+use calvin_lock::Locks;
+use calvin_store::Rows;
+use calvin_types::{Config, Fault, Place, Txn};
+use std::alloc::Global;
+use std::marker::Model;
+
+/// The scheduler of one partition, over any lock manager and any keeper of rows (Thomson et al. 2012, sections 3.2 and
+/// 3.3): requests are admitted in the global order, ask for the locks of what is stored here, read it, exchange what they
+/// read with the other partitions, run, and write what is stored here.
+#[derive(Drop)]
+pub struct Scheduler<A: App, L: Locks + Drop, S: Rows<A::Row> + Drop> {
+    pub(crate) alloc: Global,
+    pub(crate) config: Config,
+    pub(crate) partition: u8,
+    pub(crate) opened: u64,
+    pub(crate) last: Option<Place>,
+    pub(crate) turns: Turns<A>,
+    pub(crate) locks: L,
+    pub(crate) rows: S,
+}
+
+impl<A: App, L: Locks + Drop, S: Rows<A::Row> + Drop> Model for Scheduler<A, L, S> {
+    ghost use Rattle.std.specs.Coded.{codes};
+    ghost use Rattle.std.specs.FinMap.{code};
+    ghost use Rattle.calvin_types.specs.Participants.{site};
+    ghost use Rattle.calvin_sched.specs.Keeping.{Scheduled, scheduling_of, IsScheduler};
+
+    ghost Value = { Scheduled A.Args A.Row };
+
+    ghost coded = { Prim.hlevel (codes, code) };
+
+    ghost view = { λ s. record {
+      here = site s.config.partitions s.partition;
+      scheduling = scheduling_of s.opened s.last s.turns.kept (S.store s.rows);
+      room = S.room s.rows;
+    } };
+
+    ghost invariant = { λ s. IsScheduler (site s.config.partitions s.partition) (scheduling_of s.opened s.last s.turns.kept (S.store s.rows)) s.turns.kept (L.kept s.locks) };
+}
+
+impl<A: App, L: Locks + Drop, S: Rows<A::Row> + Drop> Scheduler<A, L, S> {
+    /// A scheduler on no rows: no request is admitted.
+    pub fn new(alloc: Global, config: &Config, partition: u8) -> Scheduler<A, L, S>
+        ensures { result ≡ record { here = site config.now.partitions partition; scheduling = opened (end_of 0) map.empty; room = 0 } }
+    {
+        Scheduler {
+            alloc,
+            config: *config,
+            partition,
+            opened: 0,
+            last: None,
+            turns: Turns::new(alloc),
+            locks: L::empty(alloc),
+            rows: S::empty(alloc),
+        }
+    }
+
+    /// Whether a place is after the last one, and not of an epoch before the opening one.
+    fn is_next(&self, place: Place) -> bool
+        ensures { result ≡ (is_past self.now.scheduling.last place && not (is_before place self.now.scheduling.opened_from)) }
+    {
+        let opening = Place {
+            epoch: self.opened,
+            n: 0,
+        };
+        let is_past = match self.last {
+            Some(last) => last < place,
+            None => true,
+        };
+        is_past && !(place < opening)
+    }
+
+    /// The request that is admitted at a place.
+    pub(crate) fn turn(&self, place: Place) -> Option<&Turn<A>>
+        ensures { MatchOption result (turn_at self.now.scheduling place ≡ None) (λ turn. turn_at self.now.scheduling place ≡ Some turn.now.turn) }
+    {
+        self.turns.get(place)
+    }
+
+    /// A request that waits for its locks here, with room for all rows that are to come.
+    fn new_turn(&self, place: Place, txn: &Txn<A::Args>) -> Result<Turn<A>, Fault>
+        ensures turn { IfOk result (λ k. k.turn ≡ new_turn txn.now) }
+        ensures room { IfOk result (λ k. length (awaited self.now.here k.turn) ≤ k.room) }
+        ensures only { IsOkUnless result Fault.OutOfMemory }
+    {
+        let mut turn = Turn::new(self.alloc, place, txn)?;
+        let partitions = turn.count_awaited(&self.config, self.partition);
+        turn.reserve(partitions)?;
+        Ok(turn)
+    }
+
+    /// Admits a request: it asks for the locks of the keys that are stored here. One with no key here is passed over.
+    /// Refused with `AdmittedOutOfOrder` where the place isn't after the last one that was admitted or passed over, or is
+    /// of an epoch before the opening one; else with `OutOfMemory` where a key is stored here and a growth was refused.
+    pub fn admit(&mut self, place: Place, txn: &Txn<A::Args>) -> Result<(), Fault>
+        ensures did { Did (has_local_key self.old.here txn.now) result (steps.admit self.old.here place txn.now self.old.scheduling) self.old.scheduling self.new.scheduling }
+        ensures rest { self.new ≡ record self.old { scheduling = self.new.scheduling } }
+    {
+        if !self.is_next(place) {
+            return Err(Fault::AdmittedOutOfOrder);
+        }
+        if !txn.is_participant(&self.config, self.partition) {
+            self.last = Some(place);
+            return Ok(());
+        }
+        let turn = self.new_turn(place, txn)?;
+        self.turns.reserve()?;
+        let reads = txn.sets.reads.part(&self.config, self.partition);
+        let writes = txn.sets.writes.part(&self.config, self.partition);
+        self.locks.up_to_last();
+        self.locks.request(place, &reads, &writes)?;
+        self.turns.insert(place, turn);
+        self.last = Some(place);
+        Ok(())
+    }
+
+    /// Whether the request at a place, which waits and has its locks, is run here. Refused where `begin` refuses.
+    fn ready_to_begin(&self, place: Place) -> Result<bool, Fault>
+        ensures ok { IfOk result (λ active. (x : Turning A.Args A.Row) × (turn_at self.now.scheduling place ≡ Some x) × (x.phase ≡ Waiting)
+            × (steps.is_ready self.now.here self.now.scheduling place x.request ≡ true) × (active ≡ is_active self.now.here x.request)) }
+        ensures err { IfErr result (λ fault. steps.begin self.now.here place self.now.scheduling ≡ Refuses fault) }
+    {
+        let Some(turn) = self.turn(place) else {
+            return Err(Fault::NotReady);
+        };
+        match turn.phase() {
+            Phase::Waiting => {}
+            Phase::Begun | Phase::Done => return Err(Fault::Begun),
+        }
+        if !self.locks.is_ready(place) {
+            return Err(Fault::NotReady);
+        }
+        Ok(turn.txn().is_active(&self.config, self.partition))
+    }
+
+    /// The request at a place has its locks, and reads what is stored here. Where it is passive it is done, and its locks
+    /// are released. Refused with `NotReady` where it isn't admitted, with `Begun` where it has begun or is done, else with
+    /// `NotReady` where it hasn't all its locks. It takes no memory.
+    pub fn begin(&mut self, place: Place) -> Result<Serving<A>, Fault>
+        ensures did { Did false result (steps.begin self.old.here place self.old.scheduling) self.old.scheduling self.new.scheduling }
+        ensures rest { self.new ≡ record self.old { scheduling = self.new.scheduling } }
+    {
+        let is_active = self.ready_to_begin(place)?;
+        let Some(serving) = self
+            .turns
+            .begin(place, &self.config, self.partition, &self.rows)
+        else {
+            return Err(Fault::NotReady);
+        };
+        if !is_active {
+            let _released = self.locks.release(place);
+        }
+        Ok(serving)
+    }
+
+    /// Keeps the rows that came from another partition for the request at a place. Refused with `NotAwaited` where it isn't
+    /// admitted, is done, isn't run here, reads nothing there, or has these rows. It takes no memory.
+    pub fn on_reads(&mut self, place: Place, from: u8, rows: &View<A::Row>) -> Result<(), Fault>
+        ensures did { Did false result (steps.on_reads self.old.here place from rows.now self.old.scheduling) self.old.scheduling self.new.scheduling }
+        ensures rest { self.new ≡ record self.old { scheduling = self.new.scheduling } }
+    {
+        if !self.awaits(place, from) {
+            return Err(Fault::NotAwaited);
+        }
+        self.turns.receive(place, from, rows);
+        Ok(())
+    }
+
+    /// Whether `on_reads` would take rows of a partition for the request at a place.
+    pub fn awaits(&self, place: Place, from: u8) -> bool
+        ensures { result ≡ awaits_at self.now.here (turn_at self.now.scheduling place) from }
+    {
+        match self.turn(place) {
+            Some(turn) => turn.awaits(&self.config, self.partition, from),
+            None => false,
+        }
+    }
+
+    /// The rows that the request at a place read here since the scheduler was opened. Refused with `NotServed` where it
+    /// isn't admitted or has not begun.
+    pub fn served(&self, place: Place) -> Result<View<A::Row>, Fault>
+        ensures { result ≡ steps.served_at (turn_at self.now.scheduling place) }
+    {
+        let Some(turn) = self.turn(place) else {
+            return Err(Fault::NotServed);
+        };
+        match turn.phase() {
+            Phase::Waiting => Err(Fault::NotServed),
+            Phase::Begun | Phase::Done => Ok(turn.served()),
+        }
+    }
+
+    /// The least place, of those after `after` where one is given, whose request isn't done and has its locks.
+    pub fn first_ready(&self, after: Option<Place>) -> Option<Place>
+        ensures { IsFirstReadyHere self.now.here self.now.scheduling after result }
+    {
+        self.locks.first_ready(after)
+    }
+
+    /// The rows that are stored here.
+    pub fn rows(&self) -> &S
+        ensures { S.store result.now ≡ self.now.scheduling.store }
+    {
+        &self.rows
+    }
+}

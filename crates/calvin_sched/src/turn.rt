@@ -1,0 +1,252 @@
+//! An admitted request.
+ghost use Rattle.std.specs.Prelude.{◌≡◌, if◌then◌else◌, ◌<◌, ◌≤◌, ◌-◌, ◌||◌, ◌&&◌, ◌==◌, not, is_some, max, length, IsTrue, IfOk, OnOk, OnErr, IsOkUnless};
+ghost use Rattle.std.specs.FinMap as map;
+ghost use Rattle.calvin_types.specs.Keys.{partition_of};
+ghost use Rattle.calvin_types.specs.Participants.{site, is_local, local_keys, is_active};
+ghost use Rattle.calvin_app.specs.Rows.{view};
+ghost use Rattle.calvin_sched.specs.Keeping.{awaited};
+ghost use Rattle.calvin_sched.specs.Scheduling.{new_turn, is_finished, awaits, is_collected, piece, whole_view, other_active};
+ghost use Rattle.calvin_sched.specs.Steps.{begun_turn, serving, with_rows};
+ghost use Rattle.calvin_sched.specs.declared.phase.Phase.TheVariants.{Begun, Done};
+
+use crate::came::Came;
+use crate::phase::Phase;
+use crate::reading::Reading;
+use crate::serving::Serving;
+use calvin_app::{App, Job, View, look_up};
+use calvin_store::Rows;
+use calvin_types::{Config, Fault, Few, Key, KeySet, Place, Txn};
+use std::alloc::Global;
+use std::marker::Model;
+
+/// An admitted request at one partition: how far it is, the rows that were read here, and those that came from other
+/// partitions. Contracts see also for how many more partitions' rows there is room.
+#[derive(Drop)]
+pub struct Turn<A: App> {
+    job: Box<Job<A::Args, A::Row>>,
+    phase: Phase,
+    came: Came<A::Row>,
+}
+
+impl<A: App> Model for Turn<A> {
+    ghost use Rattle.calvin_sched.specs.Keeping.{Kept};
+    ghost use Rattle.std.specs.Coded.{codes};
+    ghost use Rattle.std.specs.FinMap.{code};
+
+    ghost Value = { Kept A.Args A.Row };
+
+    ghost coded = { Prim.hlevel (codes, code) };
+
+    ghost view = { λ t. record {
+      turn = record { request = t.job.value.txn; phase = t.phase; served = t.job.value.view; came = t.came.rows };
+      room = t.came.room;
+    } };
+}
+
+impl<A: App> Turn<A> {
+    /// A request that waits for its locks. Refused with `OutOfMemory` where there is no memory for it.
+    pub fn new(alloc: Global, place: Place, txn: &Txn<A::Args>) -> Result<Turn<A>, Fault>
+        ensures turn { IfOk result (λ k. k.turn ≡ new_turn txn.now) }
+        ensures only { IsOkUnless result Fault.OutOfMemory }
+    {
+        let job = Job {
+            place,
+            txn: *txn,
+            view: View::new(),
+        };
+        let job = Box::new(alloc, job)?;
+        Ok(Turn {
+            job,
+            phase: Phase::Waiting,
+            came: Came::new(alloc),
+        })
+    }
+
+    /// Room for the rows of some more partitions.
+    pub fn reserve(&mut self, partitions: usize) -> Result<(), Fault>
+        ensures ok { OnOk result (self.new ≡ record self.old { room = max partitions self.old.room }) }
+        ensures err { OnErr result (self.new ≡ self.old) }
+        ensures only { IsOkUnless result Fault.OutOfMemory }
+    {
+        self.came.reserve(partitions)?;
+        Ok(())
+    }
+
+    /// The request.
+    pub fn txn(&self) -> &Txn<A::Args>
+        ensures { result.now ≡ self.now.turn.request }
+    {
+        &self.job.txn
+    }
+
+    /// The keys that it reads.
+    fn reads(&self) -> &KeySet
+        ensures { result.now ≡ self.now.turn.request.sets.reads }
+    {
+        &self.job.txn.sets.reads
+    }
+
+    /// How far it is.
+    pub fn phase(&self) -> Phase
+        ensures { result ≡ self.now.turn.phase }
+    {
+        self.phase
+    }
+
+    /// The rows that were read here.
+    pub fn served(&self) -> View<A::Row>
+        ensures { result ≡ self.now.turn.served }
+    {
+        self.job.view
+    }
+
+    /// Whether rows of another partition are still to come.
+    pub fn awaits(&self, config: &Config, partition: u8, from: u8) -> bool
+        ensures { result ≡ awaits (site config.now.partitions partition) self.now.turn from }
+    {
+        if self.phase == Phase::Done || !self.job.txn.is_active(config, partition) {
+            return false;
+        }
+        if from == partition || !self.job.txn.sets.reads.has_local(config, from) {
+            return false;
+        }
+        !self.came.has(from)
+    }
+
+    /// Of how many partitions rows are still to come.
+    pub fn count_awaited(&self, config: &Config, partition: u8) -> usize
+        ensures { result ≡ length (awaited (site config.now.partitions partition) self.now.turn) }
+    {
+        let mut count = 0;
+        for from in 0..config.partitions {
+            if self.awaits(config, partition, from) {
+                count += 1;
+            }
+        }
+        count
+    }
+
+    /// Whether the row of a key that is read is there: it was read here, or came from the partition that stores it.
+    fn has_piece(&self, config: &Config, partition: u8, key: &Key) -> bool
+        ensures { result ≡ (is_local (site config.now.partitions partition) key.now || is_some (map.get self.now.turn.came (partition_of config.now.partitions key.now))) }
+    {
+        let from = config.partition_of(key);
+        if from == partition {
+            return true;
+        }
+        self.came.has(from)
+    }
+
+    /// Whether all rows came that are read elsewhere.
+    pub fn is_collected(&self, config: &Config, partition: u8) -> bool
+        ensures { result ≡ is_collected (site config.now.partitions partition) self.now.turn }
+    {
+        let keys = self.reads();
+        for i in 0..keys.len() {
+            if !self.has_piece(config, partition, &keys.at(i)) {
+                return false;
+            }
+        }
+        true
+    }
+
+    /// The row of a key that is read: it was read here, or came from the partition that stores it.
+    fn piece(&self, config: &Config, partition: u8, key: &Key) -> Option<A::Row>
+        ensures { result ≡ map.get (piece (site config.now.partitions partition) self.now.turn key.now) key.now }
+    {
+        let from = config.partition_of(key);
+        if from == partition {
+            return self.job.view.get(key);
+        }
+        match self.came.get(from) {
+            Some(rows) => rows.get(key),
+            None => None,
+        }
+    }
+
+    /// The rows of all keys that are read.
+    pub fn whole_view(&self, config: &Config, partition: u8) -> View<A::Row>
+        ensures { result ≡ whole_view (site config.now.partitions partition) self.now.turn }
+    {
+        let keys = self.reads();
+        let mut whole = View::new();
+        for done in 0..keys.len() {
+            let key = keys.at(keys.len() - 1 - done);
+            match self.piece(config, partition, &key) {
+                Some(row) => whole.put(key, row),
+                None => {}
+            }
+        }
+        whole
+    }
+
+    /// Whether another partition runs the request too.
+    fn is_run_at(&self, config: &Config, partition: u8, other: u8) -> bool
+        ensures { result ≡ (not (other == partition) && is_active (site config.now.partitions other) self.now.turn.request) }
+    {
+        if other == partition {
+            return false;
+        }
+        self.job.txn.is_active(config, other)
+    }
+
+    /// The other partitions that run the request, ascending.
+    pub fn others(&self, config: &Config, partition: u8) -> Few<u8>
+        ensures { result ≡ other_active (site config.now.partitions partition) self.now.turn.request }
+    {
+        let mut others = Few::new();
+        for other in 0..config.partitions {
+            if self.is_run_at(config, partition, other) {
+                others.push(other);
+            }
+        }
+        others
+    }
+
+    /// Reads what is stored here, and answers it. Where the request is passive here it is done, as others run it.
+    pub fn begin<S: Rows<A::Row>>(&mut self, config: &Config, partition: u8, rows: &S) -> Serving<A>
+        ensures turn { self.new.turn ≡ begun_turn (site config.now.partitions partition) (S.store rows.now).map self.old.turn }
+        ensures room { self.new.room ≡ self.old.room }
+        ensures serving { result ≡ serving (site config.now.partitions partition) (begun_turn (site config.now.partitions partition) (S.store rows.now).map self.old.turn) }
+    {
+        let mut served = View::new();
+        look_up(
+            &Reading { rows },
+            &self.reads().part(config, partition),
+            &mut served,
+        );
+        let serving = Serving {
+            txn: *self.txn(),
+            rows: served,
+            others: self.others(config, partition),
+        };
+        let is_active = self.txn().is_active(config, partition);
+        self.job.view = served;
+        self.phase = phase_after_reading(is_active);
+        serving
+    }
+
+    /// Keeps the rows that came from another partition. There is room for them.
+    pub fn receive(&mut self, from: u8, rows: &View<A::Row>)
+        requires { 0 < self.old.room }
+        ensures turn { self.new.turn ≡ with_rows from rows.now self.old.turn }
+        ensures room { self.new.room ≡ self.old.room - 1 }
+    {
+        self.came.insert(from, *rows);
+    }
+
+    /// It did all that it does here.
+    pub fn finish(&mut self)
+        ensures turn { self.new.turn ≡ record self.old.turn { phase = Done } }
+        ensures room { self.new.room ≡ self.old.room }
+    {
+        self.phase = Phase::Done;
+    }
+}
+
+/// How far a request is once it has read what is stored here: a passive one is done.
+fn phase_after_reading(is_active: bool) -> Phase
+    ensures { result ≡ (if is_active then Begun else Done) }
+{
+    if is_active { Phase::Begun } else { Phase::Done }
+}

@@ -1,0 +1,122 @@
+//! The admitted requests by their places.
+ghost use Rattle.std.specs.Prelude.{◌≡◌, ◌-◌, ◌<◌, None, Some, max, IsNone, IsOk, IsSome, OnOk, OnErr, IsOkUnless};
+ghost use Rattle.std.specs.Option.{ForSome, option_copied};
+ghost use Rattle.std.specs.FinMap as map;
+ghost use Rattle.calvin_types.specs.Participants.{site};
+ghost use Rattle.calvin_sched.specs.Steps.{begun_turn, serving, with_rows};
+ghost use Rattle.calvin_sched.specs.declared.phase.Phase.TheVariants.{Done};
+
+use crate::serving::Serving;
+use crate::turn::Turn;
+use calvin_app::{App, View};
+use calvin_store::Rows;
+use calvin_types::{Config, Fault, Place};
+use std::alloc::Global;
+use std::collections::HashMap;
+use std::marker::Model;
+
+/// At most one admitted request at each place. Room for one more can be reserved.
+#[derive(Drop)]
+pub struct Turns<A: App> {
+    turns: HashMap<Place, Turn<A>>,
+    room: usize,
+}
+
+impl<A: App> Model for Turns<A> {
+    ghost use Rattle.std.specs.Prelude.{◌≤◌};
+    ghost use Rattle.std.specs.FinMap.{from_entries};
+    ghost use Rattle.std.specs.HashMap.{spare};
+    ghost use Rattle.calvin_sched.specs.Keeping.{Seats};
+    ghost use Rattle.std.specs.Coded.{codes};
+    ghost use Rattle.std.specs.FinMap.{code};
+
+    ghost Value = { Seats A.Args A.Row };
+
+    ghost coded = { Prim.hlevel (codes, code) };
+
+    ghost view = { λ t. record { kept = from_entries t.turns.entries; room = t.room } };
+
+    ghost invariant = { λ t. t.room ≤ spare t.turns };
+}
+
+impl<A: App> Turns<A> {
+    /// No request, and room for none.
+    pub fn new(alloc: Global) -> Turns<A>
+        ensures { result ≡ record { kept = map.empty; room = 0 } }
+    {
+        Turns {
+            turns: HashMap::new(alloc),
+            room: 0,
+        }
+    }
+
+    /// The request at a place.
+    pub fn get(&self, place: Place) -> Option<&Turn<A>>
+        ensures { option_copied result ≡ map.get self.now.kept place }
+    {
+        self.turns.get(&place)
+    }
+
+    /// Room for one more request at least.
+    pub fn reserve(&mut self) -> Result<(), Fault>
+        ensures ok { OnOk result (self.new ≡ record self.old { room = max 1 self.old.room }) }
+        ensures err { OnErr result (self.new ≡ self.old) }
+        ensures only { IsOkUnless result Fault.OutOfMemory }
+    {
+        if self.room == 0 {
+            self.turns.reserve(1)?;
+            self.room = 1;
+        }
+        Ok(())
+    }
+
+    /// Puts a request at a place, in place of the one that is there. There is room for it.
+    pub fn insert(&mut self, place: Place, turn: Turn<A>)
+        requires { 0 < self.old.room }
+        ensures { self.new ≡ record { kept = map.insert self.old.kept place turn; room = self.old.room - 1 } }
+    {
+        let put: Result<_, _> = self.turns.insert(place, turn);
+        let _before = put.unwrap();
+        self.room -= 1;
+    }
+
+    /// The request at a place, if there is one, begins, and answers what it read here.
+    pub fn begin<S: Rows<A::Row>>(
+        &mut self,
+        place: Place,
+        config: &Config,
+        partition: u8,
+        rows: &S,
+    ) -> Option<Serving<A>>
+        ensures none { map.get self.old.kept place ≡ None → IsNone result × (self.new ≡ self.old) }
+        ensures some { ForSome (map.get self.old.kept place) (λ k. let here = site config.now.partitions partition in let x = begun_turn here (S.store rows.now).map k.turn in
+            (result ≡ Some (serving here x)) × (self.new ≡ record self.old { kept = map.insert self.old.kept place (record { turn = x; room = k.room }) })) }
+    {
+        let Some(turn) = self.turns.get_mut(&place) else {
+            return None;
+        };
+        let serving = turn.begin(config, partition, rows);
+        Some(serving)
+    }
+
+    /// Keeps rows of another partition for the request at a place, which is there and has room for them.
+    pub fn receive(&mut self, place: Place, from: u8, rows: &View<A::Row>)
+        requires { ForSome (map.get self.old.kept place) (λ k. 0 < k.room) }
+        ensures { ForSome (map.get self.old.kept place) (λ k. self.new ≡ record self.old { kept = map.insert self.old.kept place (record { turn = with_rows from rows.now k.turn; room = k.room - 1 }) }) }
+    {
+        let Some(turn) = self.turns.get_mut(&place) else {
+            return;
+        };
+        turn.receive(from, rows);
+    }
+
+    /// The request at a place, which is there, did all that it does here.
+    pub fn finish(&mut self, place: Place)
+        ensures { ForSome (map.get self.old.kept place) (λ k. self.new ≡ record self.old { kept = map.insert self.old.kept place (record { turn = record k.turn { phase = Done }; room = k.room }) }) }
+    {
+        let Some(turn) = self.turns.get_mut(&place) else {
+            return;
+        };
+        turn.finish();
+    }
+}
