@@ -1,5 +1,5 @@
 -- What a scheduler in code keeps: the data of its partition, and for what it needs no more memory (Thomson et al. 2012,
--- sections 3.2 and 3.3).
+-- section 3.2).
 --     Came      the rows that came from other partitions, and for how many more there is room
 --     Kept      a request that is admitted, and for how many partitions' rows there is room
 --     Seats      the requests that are admitted, and for how many more there is room

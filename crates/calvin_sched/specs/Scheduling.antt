@@ -1,4 +1,4 @@
--- The data of one partition's scheduler (Thomson et al. 2012, sections 3.2 and 3.3: requests are admitted in the global
+-- The data of one partition's scheduler (Thomson et al. 2012, section 3.2: requests are admitted in the global
 -- order, lock what they use, read what is stored here, exchange what they read, run, and write what is stored here).
 use Rattle.std.specs.Prelude.{ℕ, Bool, true, false, ◌&&◌, ◌||◌, not, ◌==◌, if◌then◌else◌, List, [], ◌∷◌, Option, Some, None, is_some}
 use Rattle.std.specs.Option.{unwrap_or}

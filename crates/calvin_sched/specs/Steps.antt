@@ -1,5 +1,5 @@
 -- What each call makes of a scheduler's data: a refusal, or the data after it and what it answers. Refusals are looked at in
--- the order of the tests (Thomson et al. 2012, section 3.2: locks; section 3.3: the phases of a request).
+-- the order of the tests (Thomson et al. 2012, section 3.2: locks, and the phases of a request).
 use Rattle.std.specs.Prelude.{ℕ, ◌==◌, Bool, false, ◌&&◌, ◌||◌, not, if◌then◌else◌, List, ◌++◌, Option, Some, None, Result, Ok, Err}
 use Rattle.std.specs.List.{list_any}
 use Rattle.std.specs.FinMap.{len, insert, retain_keys, FinMap}

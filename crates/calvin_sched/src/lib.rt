@@ -1,5 +1,6 @@
-//! One partition's scheduler, in definitions: requests are admitted in the global order, lock what they use, read, exchange
-//! what they read, run and write (Thomson et al. 2012, sections 3.2 and 3.3).
+//! One partition's scheduler: requests are admitted in the global order, lock what they use, read, exchange what they read,
+//! run and write (Thomson et al. 2012, section 3.2). All calls are there in definitions; in code a request is admitted,
+//! begins, and takes the rows of other partitions.
 #![tactic(auto)]
 
 mod came;
