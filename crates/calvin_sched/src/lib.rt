@@ -1,6 +1,6 @@
 //! One partition's scheduler: requests are admitted in the global order, lock what they use, read, exchange what they read,
 //! run and write (Thomson et al. 2012, section 3.2). All calls are there in definitions; in code a request is admitted,
-//! begins, and takes the rows of other partitions.
+//! begins, takes the rows of other partitions, and is told as a job once all have come.
 #![tactic(auto)]
 
 mod came;

@@ -13,7 +13,7 @@ use crate::phase::Phase;
 use crate::serving::Serving;
 use crate::turn::Turn;
 use crate::turns::Turns;
-use calvin_app::{App, View};
+use calvin_app::{App, Job, View};
 use calvin_lock::Locks;
 use calvin_store::Rows;
 use calvin_types::{Config, Fault, Place, Txn};
@@ -190,6 +190,28 @@ impl<A: App, L: Locks + Drop, S: Rows<A::Row> + Drop> Scheduler<A, L, S> {
             Some(turn) => turn.awaits(&self.config, self.partition, from),
             None => false,
         }
+    }
+
+    /// What is to be run at a place. Refused with `NotReady` where the request has not begun or is done, else with
+    /// `ReadsMissing` where rows of another partition are still to come. It takes no memory.
+    pub fn job(&self, place: Place) -> Result<Job<A::Args, A::Row>, Fault>
+        ensures { result ≡ steps.job self.now.here place self.now.scheduling }
+    {
+        let Some(turn) = self.turn(place) else {
+            return Err(Fault::NotReady);
+        };
+        match turn.phase() {
+            Phase::Begun => {}
+            Phase::Waiting | Phase::Done => return Err(Fault::NotReady),
+        }
+        if !turn.is_collected(&self.config, self.partition) {
+            return Err(Fault::ReadsMissing);
+        }
+        Ok(Job {
+            place,
+            txn: *turn.txn(),
+            view: turn.whole_view(&self.config, self.partition),
+        })
     }
 
     /// The rows that the request at a place read here since the scheduler was opened. Refused with `NotServed` where it
