@@ -160,7 +160,7 @@ module _ {Args Row : Type 0} (here : Site) (q : Place) (s : Scheduling Args Row)
             let known = found.1 in
             let both = does_is e in
             let answers : out.1 ≡ answer_on m j.txn j.view = ap (λ (o : Txn Args × Answer Reply). o.1) both.1 in
-            let asked : out.0 ≡ j.request = ap (λ (o : Txn Args × Answer Reply). o.0) both.1 in (
+            let asked : out.0 ≡ j.txn = ap (λ (o : Txn Args × Answer Reply). o.0) both.1 in (
               record {
                 turn = x;
                 has_turn = known.has_turn;

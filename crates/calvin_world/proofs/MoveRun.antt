@@ -85,7 +85,7 @@ module _ (x : Node) (q : Place) where
   finishes t whole a ws there is_begun collected whole_is answered written =
       ap (λ (o : Option (Turn KvRequest ℕ)). node.finish_by x q (sched.finish_with kv here s (sched.job_at here q o))) there
       ∙ ap (λ (p : Phase). node.finish_by x q (sched.finish_with kv here s (sched.job_by here q t p))) is_begun
-      ∙ ap (λ (b : Bool). node.finish_by x q (sched.finish_with kv here s (cond b (Ok (record { place = q; request = t.request; whole = whole_view here t })) (Err fault.ReadsMissing)))) collected
+      ∙ ap (λ (b : Bool). node.finish_by x q (sched.finish_with kv here s (cond b (Ok (record { place = q; txn = t.request; view = whole_view here t })) (Err fault.ReadsMissing)))) collected
       ∙ (λ i. node.finish_by x q (Does (record s { turns = sched.ended (there i) s.turns q; store = put_at q (local_writes here (writes i)) s.store }) (t.request, answers i)))
     where
       writes : writes_on kv t.request (whole_view here t) ≡ ws
