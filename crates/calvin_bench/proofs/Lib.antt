@@ -10,3 +10,6 @@ pub mod Growth
 pub mod Lists
 pub mod ManyReplicas
 pub mod Deeds
+pub mod Standing
+pub mod Stepping
+pub mod OneOrder

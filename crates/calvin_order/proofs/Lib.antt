@@ -1,7 +1,11 @@
 pub mod Epochs
+pub mod Histories
 pub mod Joining
+pub mod NextEpochs
 pub mod Places
+pub mod Queues
 pub mod Ranges
+pub mod Sequencers
 pub mod Standing
 pub mod Walks
 pub mod SameOrders

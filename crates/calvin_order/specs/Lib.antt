@@ -1,5 +1,6 @@
 pub mod Codes
 pub mod Configs
+pub mod Keeping
 pub mod Merged
 pub mod Merging
 pub mod Sequencing

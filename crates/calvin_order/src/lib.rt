@@ -3,10 +3,14 @@
 #![tactic(auto)]
 
 mod held;
+mod history;
 mod merge;
+mod queue;
 mod same;
+mod sequencer;
 mod walk;
 
 pub use merge::{Merge, orders_rise};
 pub use same::same_orders;
+pub use sequencer::Sequencer;
 pub use walk::{BatchSource, EpochRequests};

@@ -44,10 +44,17 @@ impl<Args: Copy> Merge<Args> {
     pub fn new(alloc: Global, config: &Config) -> Merge<Args>
         ensures { result ≡ record { partitions = config.now.partitions; next = 0; held = map.empty; room = 0; ready = 0 } }
     {
+        Merge::from_epoch(alloc, config, 0)
+    }
+
+    /// A merge that goes on after what was restored: nothing is held, and `first` is the next epoch.
+    pub fn from_epoch(alloc: Global, config: &Config, first: u64) -> Merge<Args>
+        ensures { result ≡ record { partitions = config.now.partitions; next = first; held = map.empty; room = 0; ready = 0 } }
+    {
         Merge {
             alloc,
             partitions: config.partitions,
-            next: Some(0),
+            next: Some(first),
             held: Held::new(alloc),
             ready: Vec::new(alloc),
         }

@@ -1,5 +1,5 @@
 -- A request is admitted: what is kept afterwards, and why its locks aren't refused.
-use Rattle.std.proofs.Common.{◌≡◌, ℕ, ◌≤◌, true, length, Option, Some, None, sym, ap, subst, ◌∙◌}
+use Rattle.std.proofs.Common.{◌≡◌, ℕ, ◌≤◌, true, length, Option, Some, sym, ap, subst}
 use Rattle.std.specs.FinMap.{FinMap, insert}
 use Rattle.calvin_types.specs.declared.place.Place.{Place}
 use Rattle.calvin_types.specs.declared.txn.Txn.{Txn}
@@ -10,7 +10,7 @@ use Rattle.calvin_order.specs.Merged.{end_of}
 use Rattle.calvin_lock.specs.Local.{local_sets}
 use Rattle.calvin_lock.specs.Locking.{Locking, IsUpToLast, with_request}
 use Rattle.calvin_sched.specs.Scheduling.{is_past, new_turn}
-use Rattle.calvin_sched.specs.Keeping.{Kept, turns_of, awaited, scheduling_of, IsScheduler}
+use Rattle.calvin_sched.specs.Keeping.{Kept, awaited, scheduling_of, IsScheduler}
 use Rattle.calvin_sched.proofs.Keepers.{put_turn, keeps_admitted}
 
 module _ {Args Row : Type 0} (here : Site) (opened : ℕ) (last : Option Place) (kept : FinMap {K = Place} place_cmp (Kept Args Row)) (store : Store Row) (locking : Locking)

@@ -1,6 +1,5 @@
 -- What a request that is to begin answers, by how far it is.
-use Rattle.std.proofs.Common.{◌≡◌, Bool, true, false, cond, Some, None, refl, sym, ap, subst, ◌∙◌}
-use Rattle.std.specs.FinMap.{get}
+use Rattle.std.proofs.Common.{◌≡◌, Bool, true, false, cond, Some, refl, ap, ◌∙◌}
 use Rattle.calvin_types.specs.declared.place.Place.{Place}
 use Rattle.calvin_types.specs.declared.fault.Fault.TheVariants as fault
 use Rattle.calvin_types.specs.Deeds.{Deed, Refuses, Does}

@@ -1,11 +1,11 @@
 -- What is true of every scheduler stays so at each step.
-use Rattle.std.proofs.Common.{◌≡◌, ◌≢◌, Bor, ℕ, ◌+◌, ◌-◌, ◌<◌, ◌≤◌, Bool, true, false, cond, not, ◌&&◌, ◌⊎◌, inl, inr, List, [], ◌∷◌, length, Option, Some, None, refl, sym, ap, subst, ◌∙◌, arith}
-use Rattle.std.proofs.lemmas.Bool.{false≢true, and_parts, or_cases, eqb-true, eq-eqb}
+use Rattle.std.proofs.Common.{◌≡◌, ◌≢◌, Bor, ℕ, ◌+◌, ◌<◌, ◌≤◌, Bool, true, false, cond, not, ◌&&◌, ◌⊎◌, inl, inr, List, [], ◌∷◌, length, Option, Some, None, refl, sym, ap, subst, ◌∙◌}
+use Rattle.std.proofs.lemmas.Bool.{false≢true, and_parts, or_cases, eqb-true}
 use Rattle.std.proofs.lemmas.Map.Lookups.{exact_unsigned}
 use Rattle.std.proofs.lemmas.Nat.{mod_below}
 use Rattle.std.proofs.lemmas.Option.{none-some, same_Some}
 use Rattle.std.specs.Prelude.{◌==◌, map, is_some}
-use Rattle.std.specs.List.{filter, list_any, range_with_len}
+use Rattle.std.specs.List.{list_any, range_with_len}
 use Rattle.std.specs.Option.{option_map, option_copied, MatchOption}
 use Rattle.std.specs.declared.cmp.Ordering.{Ordering}
 use Rattle.std.specs.declared.cmp.Ordering.TheVariants.{Less, Equal, Greater}
@@ -22,14 +22,13 @@ use Rattle.calvin_types.proofs.PlaceOrder.{place_total, place_exact, one_place}
 use Rattle.calvin_types.proofs.ExactMaps.{same_or_not, insert_here, insert_other}
 use Rattle.calvin_app.specs.Rows.{Rows}
 use Rattle.calvin_app.specs.Stores.{Store}
-use Rattle.calvin_lock.specs.Local.{local_sets, IsLockedAs}
+use Rattle.calvin_lock.specs.Local.{local_sets}
 use Rattle.calvin_lock.specs.Locking.{Locking, IsUpToLast, no_locks, with_request, without}
 use Rattle.calvin_lock.specs.Ready.{IsReady, IsPast}
 use Rattle.calvin_lock.proofs.LocalLocks.{locked_none, locked_same, locked_requested, locked_released}
 use Rattle.calvin_lock.proofs.ReadyLaws.{ready_with_request, ready_without, requested_before}
-use Rattle.calvin_sched.specs.declared.phase.Phase.{Phase}
 use Rattle.calvin_sched.specs.declared.phase.Phase.TheVariants.{Waiting, Begun, Done}
-use Rattle.calvin_sched.specs.Scheduling.{Turn, Scheduling, is_before, is_past, is_finished, awaits, turn_at, with_turn}
+use Rattle.calvin_sched.specs.Scheduling.{Turn, Scheduling, is_finished, awaits, with_turn}
 use Rattle.calvin_sched.specs.Standing.{unreleased, unreleased_at, unreleased_by}
 use Rattle.calvin_sched.specs.Steps.{begun_turn, with_rows}
 use Rattle.calvin_sched.specs.Keeping.{Kept, turns_of, awaited, scheduling_of, IsScheduler}
@@ -141,7 +140,7 @@ module _ {Args Row : Type 0} (here : Site) (x : Turn Args Row) where
 
 -- ---- the steps
 
-less_of : (r : Ordering) → is_lt r ≡ true → r ≡ Less
+pub less_of : (r : Ordering) → is_lt r ≡ true → r ≡ Less
 less_of Less h = refl
 less_of Equal h = absurd (false≢true h)
 less_of Greater h = absurd (false≢true h)

@@ -1,15 +1,15 @@
 -- What a scheduler's lock manager calls ready is what the data say.
-use Rattle.std.proofs.Common.{◌≡◌, Bool, true, false, ◌↔◌, Option, Some, None, refl, sym, ap, subst, ◌∙◌}
+use Rattle.std.proofs.Common.{◌≡◌, true, false, ◌↔◌, Option, Some, None, refl, sym, ap, ◌∙◌}
 use Rattle.std.proofs.lemmas.Bool.{false≢true}
-use Rattle.std.proofs.lemmas.Option.{none-some, same_Some}
-use Rattle.std.specs.FinMap.{FinMap, get}
+use Rattle.std.proofs.lemmas.Option.{none-some}
+use Rattle.std.specs.FinMap.{FinMap}
 use Rattle.calvin_types.specs.declared.key_set.Sets.{Sets}
 use Rattle.calvin_types.specs.declared.place.Place.{Place}
 use Rattle.calvin_types.specs.Participants.{Site}
-use Rattle.calvin_types.specs.Places.{place_cmp, IsBefore}
+use Rattle.calvin_types.specs.Places.{place_cmp}
 use Rattle.calvin_lock.specs.Local.{IsReadyAt}
 use Rattle.calvin_lock.specs.Locking.{Locking}
-use Rattle.calvin_lock.specs.Ready.{IsReady, IsPast, IsFirstReady}
+use Rattle.calvin_lock.specs.Ready.{IsReady, IsFirstReady}
 use Rattle.calvin_lock.proofs.LocalLocks.{ready_among, ready_unreleased}
 use Rattle.calvin_sched.specs.declared.phase.Phase.{Phase}
 use Rattle.calvin_sched.specs.declared.phase.Phase.TheVariants.{Waiting, Begun, Done}

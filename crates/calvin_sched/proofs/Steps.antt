@@ -1,5 +1,5 @@
 -- The steps of a scheduler in code, by what it keeps.
-use Rattle.std.proofs.Common.{◌≡◌, ◌≢◌, ℕ, ◌+◌, ◌-◌, ◌<◌, ◌≤◌, Bool, true, false, cond, length, Result, Ok, Err, IsOk, OnOk, Option, Some, None, refl, sym, ap, subst, ◌∙◌, arith}
+use Rattle.std.proofs.Common.{◌≡◌, ℕ, ◌-◌, ◌<◌, ◌≤◌, true, false, cond, length, Result, Ok, Err, IsOk, OnOk, Option, Some, None, refl, sym, ap, subst, ◌∙◌, arith}
 use Rattle.std.proofs.lemmas.Bool.{false≢true}
 use Rattle.std.specs.FinMap.{FinMap, get, insert}
 use Rattle.calvin_types.specs.declared.place.Place.{Place}
@@ -9,8 +9,6 @@ use Rattle.calvin_app.specs.Rows.{Rows}
 use Rattle.calvin_app.specs.Stores.{Store}
 use Rattle.calvin_order.specs.Merged.{end_of}
 use Rattle.calvin_lock.specs.Locking.{Locking, without}
-use Rattle.calvin_lock.specs.Ready.{IsReady}
-use Rattle.calvin_sched.specs.declared.phase.Phase.{Phase}
 use Rattle.calvin_sched.specs.declared.phase.Phase.TheVariants.{Waiting, Begun, Done}
 use Rattle.calvin_sched.specs.Scheduling.{Turn, Scheduling, is_finished, turn_at, with_turn, awaits}
 use Rattle.calvin_sched.specs.Standing.{unreleased_at, unreleased_by}
@@ -32,7 +30,7 @@ module _ {Args Row : Type 0} (here : Site) (opened : ℕ) (last : Option Place) 
     pub after_is : scheduling_of opened last after store ≡ with_turn now q next.turn
     after_is = let turns = ap turns_of put ∙ put_turn kept q next in λ i. record { opened_from = end_of opened; last = last; turns = turns i; store = store }
 
-    shown : (l : Locking) → IsScheduler here (with_turn now q next.turn) (insert kept q next) l → IsScheduler here (scheduling_of opened last after store) after l
+    pub shown : (l : Locking) → IsScheduler here (with_turn now q next.turn) (insert kept q next) l → IsScheduler here (scheduling_of opened last after store) after l
     shown l keeps =
         subst (λ m. IsScheduler here (scheduling_of opened last m store) m l) (sym put)
         (subst (λ ts. IsScheduler here (record { opened_from = end_of opened; last = last; turns = ts; store = store }) (insert kept q next) l) (sym (put_turn kept q next)) keeps)

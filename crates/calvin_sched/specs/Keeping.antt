@@ -10,28 +10,34 @@
 --     scheduling_of opened last kept store      its data
 --     IsScheduler here s kept locking      what is true of every scheduler
 --     Did grows result deed old new      what a call made of the data, by its deed
+--     IsNotDue job due fault      why a job that was run isn't taken
+--     Finished m here room job result old new      what a job that was run made of the data
 --     IsReadyHere here s q      an admitted request isn't done and has its locks
 --     IsFirstReadyHere here s after answer      the least such place past another
-use Rattle.std.specs.Prelude.{◌≡◌, ℕ, ◌≤◌, Bool, true, false, List, length, map, Option, Some, None, Result, Ok, Err, MatchOption}
+use Rattle.std.specs.Prelude.{◌≡◌, ℕ, ◌<◌, ◌≤◌, ◌⊎◌, Bool, true, false, List, length, map, Option, Some, None, Result, Ok, Err, MatchOption}
 use Rattle.std.specs.List.{filter, range_with_len}
 use Rattle.std.specs.Ordering.{nat_cmp}
 use Rattle.std.specs.FinMap.{FinMap, entries, from_entries, get}
 use Rattle.calvin_types.specs.declared.fault.Fault.{Fault}
-use Rattle.calvin_types.specs.declared.fault.Fault.TheVariants.{OutOfMemory}
+use Rattle.calvin_types.specs.declared.fault.Fault.TheVariants.{OutOfMemory, NotCollected, StaleJob}
 use Rattle.calvin_types.specs.declared.place.Place.{Place}
 use Rattle.calvin_types.specs.Deeds.{Deed, Refuses, Does}
 use Rattle.calvin_types.specs.Participants.{Site}
 use Rattle.calvin_types.specs.Places.{place_cmp, IsBefore}
+use Rattle.calvin_app.specs.declared.answer.Answer.{Answer}
+use Rattle.calvin_app.specs.declared.job.Job.{Job}
+use Rattle.calvin_app.specs.Meaning.{Meaning}
 use Rattle.calvin_app.specs.Rows.{Rows}
+use Rattle.calvin_app.specs.Serial.{answer_on, writes_on}
 use Rattle.calvin_app.specs.Stores.{Store}
 use Rattle.calvin_order.specs.Merged.{end_of}
 use Rattle.calvin_lock.specs.Local.{IsLockedAs}
 use Rattle.calvin_lock.specs.Locking.{Locking}
 use Rattle.calvin_lock.specs.Ready.{IsReady, IsPast}
 use Rattle.calvin_sched.specs.declared.phase.Phase.TheVariants.{Begun}
-use Rattle.calvin_sched.specs.Scheduling.{Turn, Scheduling, is_past, is_finished, awaits, turn_at}
+use Rattle.calvin_sched.specs.Scheduling.{Turn, Scheduling, is_past, is_finished, awaits, turn_at, local_writes}
 use Rattle.calvin_sched.specs.Standing.{unreleased}
-use Rattle.calvin_sched.specs.Steps.{is_ready}
+use Rattle.calvin_sched.specs.Steps.{is_ready, job, after_job}
 
 pub record Came (Row : Type 0) : Type 0 where
   pub rows : FinMap {K = ℕ} nat_cmp (Rows Row)
@@ -45,11 +51,14 @@ pub record Seats (Args Row : Type 0) : Type 0 where
   pub kept : FinMap {K = Place} place_cmp (Kept Args Row)
   pub room : ℕ
 
--- its partition, the data, and how many rows can be put without growing
+-- its partition, the data, how many rows can be put without growing, how many epochs are merged, and the places at which
+-- their requests with a key here are due and not done
 pub record Scheduled (Args Row : Type 0) : Type 0 where
   pub here : Site
   pub scheduling : Scheduling Args Row
   pub room : ℕ
+  pub merged : ℕ
+  pub due : List Place
 
 module _ {Args Row : Type 0} where
   abbrev pub turns_of : FinMap {K = Place} place_cmp (Kept Args Row) → FinMap {K = Place} place_cmp (Turn Args Row)
@@ -88,3 +97,16 @@ Did grows (Ok out) (Refuses fault) old new = ⊥
 Did grows (Ok out) (Does next given) old new = (out ≡ given) × (new ≡ next)
 Did grows (Err refusal) (Refuses fault) old new = (refusal ≡ fault) × (new ≡ old)
 Did grows (Err refusal) (Does next given) old new = (grows ≡ true) × (refusal ≡ OutOfMemory) × (new ≡ old)
+
+module _ {Args Row : Type 0} where
+  -- why a job that was run isn't taken, by the one that is due at its place: there is none; or it is another
+  abbrev pub IsNotDue : Job Args Row → Result (Job Args Row) Fault → Fault → Type 0
+  IsNotDue job (Err f) fault = fault ≡ NotCollected
+  IsNotDue job (Ok due) fault = (fault ≡ StaleJob) × (due ≡ job → ⊥)
+
+  -- the job that is due takes effect, and its request is answered; or it isn't due, or it writes more rows here than there is room for, and nothing changed
+  abbrev pub Finished : {Reply : Type 0} → Meaning Args Row Reply → Site → ℕ → Job Args Row → Result (Answer Reply) Fault → Scheduling Args Row → Scheduling Args Row → Type 0
+  Finished m here room j (Ok answer) old new = (job here j.place old ≡ Ok j) × (new ≡ after_job m here j old) × (answer ≡ answer_on m j.txn j.view)
+  Finished m here room j (Err fault) old new =
+      (new ≡ old) × (IsNotDue j (job here j.place old) fault
+      ⊎ ((fault ≡ OutOfMemory) × (job here j.place old ≡ Ok j) × (room < length (local_writes here (writes_on m j.txn j.view)))))

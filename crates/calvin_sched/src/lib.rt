@@ -1,18 +1,21 @@
 //! One partition's scheduler: requests are admitted in the global order, lock what they use, read, exchange what they read,
-//! run and write (Thomson et al. 2012, section 3.2). All calls are there in definitions; in code a request is admitted,
-//! begins, takes the rows of other partitions, and is told as a job once all have come.
+//! run and write (Thomson et al. 2012, section 3.2). In code a request is admitted, begins, takes the rows of other
+//! partitions, is told as a job once all have come, and is finished with what was computed of it; it is
+//! told which epochs are merged, and tells at the end of which it stands.
 #![tactic(auto)]
 
 mod came;
+mod finishing;
 mod law;
 mod phase;
+mod progress;
 mod reading;
 mod scheduler;
 mod serving;
 mod turn;
 mod turns;
 
-pub use law::ready_is;
+pub use law::{due_is, ready_is};
 pub use phase::Phase;
 pub use scheduler::Scheduler;
 pub use serving::Serving;

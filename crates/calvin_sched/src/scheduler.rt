@@ -1,19 +1,24 @@
 //! The scheduler of one partition.
-ghost use Rattle.std.specs.Prelude.{◌≡◌, ◌&&◌, ◌≤◌, false, true, None, Some, MatchOption, not, max, length, IfOk, IfErr, OnOk, OnErr, IsOk, IsOkUnless};
+ghost use Rattle.std.specs.Prelude.{◌≡◌, ◌&&◌, ◌≤◌, [], false, true, None, Some, Ok, MatchOption, not, max, length, IfOk, IfErr, OnOk, OnErr, IsOk, IsOkUnless};
+ghost use Rattle.std.specs.List.{list_any};
 ghost use Rattle.std.specs.FinMap as map;
 ghost use Rattle.calvin_types.specs.Deeds.{Refuses};
 ghost use Rattle.calvin_types.specs.Participants.{site, has_local_key, is_active};
 ghost use Rattle.calvin_order.specs.Merged.{end_of};
-ghost use Rattle.calvin_sched.specs.Keeping.{Did, awaited, awaits_at, IsFirstReadyHere};
-ghost use Rattle.calvin_sched.specs.Scheduling.{Turn as Turning, new_turn, opened, is_past, is_before, turn_at};
+ghost use Rattle.calvin_sched.specs.Keeping.{Did, awaited, awaits_at, IsFirstReadyHere, IsNotDue, Finished};
+ghost use Rattle.calvin_sched.specs.Progress.{left, merge};
+ghost use Rattle.calvin_sched.specs.Standing.{stands_at};
+ghost use Rattle.calvin_sched.specs.Scheduling.{Turn as Turning, new_turn, opened, is_past, is_before, turn_at, local_writes};
 ghost use Rattle.calvin_sched.specs.Steps as steps;
 ghost use Rattle.calvin_sched.specs.declared.phase.Phase.TheVariants.{Waiting};
 
+use crate::finishing::{is_same_job, local_part};
 use crate::phase::Phase;
+use crate::progress::Progress;
 use crate::serving::Serving;
 use crate::turn::Turn;
 use crate::turns::Turns;
-use calvin_app::{App, Job, View};
+use calvin_app::{Answer, App, Computed, Job, View};
 use calvin_lock::Locks;
 use calvin_store::Rows;
 use calvin_types::{Config, Fault, Place, Txn};
@@ -33,13 +38,15 @@ pub struct Scheduler<A: App, L: Locks + Drop, S: Rows<A::Row> + Drop> {
     pub(crate) turns: Turns<A>,
     pub(crate) locks: L,
     pub(crate) rows: S,
+    pub(crate) progress: Progress,
 }
 
 impl<A: App, L: Locks + Drop, S: Rows<A::Row> + Drop> Model for Scheduler<A, L, S> {
     ghost use Rattle.std.specs.Coded.{codes};
     ghost use Rattle.std.specs.FinMap.{code};
     ghost use Rattle.calvin_types.specs.Participants.{site};
-    ghost use Rattle.calvin_sched.specs.Keeping.{Scheduled, scheduling_of, IsScheduler};
+    ghost use Rattle.calvin_sched.specs.Keeping.{Scheduled, scheduling_of, turns_of, IsScheduler};
+    ghost use Rattle.calvin_sched.specs.Progress.{left, IsProgress};
 
     ghost Value = { Scheduled A.Args A.Row };
 
@@ -49,15 +56,18 @@ impl<A: App, L: Locks + Drop, S: Rows<A::Row> + Drop> Model for Scheduler<A, L, 
       here = site s.config.partitions s.partition;
       scheduling = scheduling_of s.opened s.last s.turns.kept (S.store s.rows);
       room = S.room s.rows;
+      merged = s.progress.merged;
+      due = left (scheduling_of s.opened s.last s.turns.kept (S.store s.rows)) s.progress.due.items;
     } };
 
-    ghost invariant = { λ s. IsScheduler (site s.config.partitions s.partition) (scheduling_of s.opened s.last s.turns.kept (S.store s.rows)) s.turns.kept (L.kept s.locks) };
+    ghost invariant = { λ s. IsScheduler (site s.config.partitions s.partition) (scheduling_of s.opened s.last s.turns.kept (S.store s.rows)) s.turns.kept (L.kept s.locks)
+        × IsProgress s.opened s.last (turns_of s.turns.kept) s.progress.merged s.progress.done s.progress.due.items };
 }
 
 impl<A: App, L: Locks + Drop, S: Rows<A::Row> + Drop> Scheduler<A, L, S> {
     /// A scheduler on no rows: no request is admitted.
     pub fn new(alloc: Global, config: &Config, partition: u8) -> Scheduler<A, L, S>
-        ensures { result ≡ record { here = site config.now.partitions partition; scheduling = opened (end_of 0) map.empty; room = 0 } }
+        ensures { result ≡ record { here = site config.now.partitions partition; scheduling = opened (end_of 0) map.empty; room = 0; merged = 0; due = [] } }
     {
         Scheduler {
             alloc,
@@ -68,6 +78,7 @@ impl<A: App, L: Locks + Drop, S: Rows<A::Row> + Drop> Scheduler<A, L, S> {
             turns: Turns::new(alloc),
             locks: L::empty(alloc),
             rows: S::empty(alloc),
+            progress: Progress::new(alloc),
         }
     }
 
@@ -154,7 +165,8 @@ impl<A: App, L: Locks + Drop, S: Rows<A::Row> + Drop> Scheduler<A, L, S> {
     /// `NotReady` where it hasn't all its locks. It takes no memory.
     pub fn begin(&mut self, place: Place) -> Result<Serving<A>, Fault>
         ensures did { Did false result (steps.begin self.old.here place self.old.scheduling) self.old.scheduling self.new.scheduling }
-        ensures rest { self.new ≡ record self.old { scheduling = self.new.scheduling } }
+        ensures rest { self.new ≡ record self.old { scheduling = self.new.scheduling; due = self.new.due } }
+        ensures due { self.new.due ≡ left self.new.scheduling self.old.due }
     {
         let is_active = self.ready_to_begin(place)?;
         let Some(serving) = self
@@ -165,6 +177,7 @@ impl<A: App, L: Locks + Drop, S: Rows<A::Row> + Drop> Scheduler<A, L, S> {
         };
         if !is_active {
             let _released = self.locks.release(place);
+            self.progress.finish(place, self.opened, &self.turns);
         }
         Ok(serving)
     }
@@ -214,6 +227,53 @@ impl<A: App, L: Locks + Drop, S: Rows<A::Row> + Drop> Scheduler<A, L, S> {
         })
     }
 
+    /// Whether a job is the one that is to be run at its place: refused with `NotCollected` where none is, and with
+    /// `StaleJob` where it is another.
+    fn check_due(&self, job: &Job<A::Args, A::Row>) -> Result<(), Fault>
+        ensures ok { OnOk result (steps.job self.now.here job.now.place self.now.scheduling ≡ Ok job.now) }
+        ensures err { IfErr result (IsNotDue job.now (steps.job self.now.here job.now.place self.now.scheduling)) }
+    {
+        let Ok(due) = self.job(job.place) else {
+            return Err(Fault::NotCollected);
+        };
+        if !is_same_job::<A>(&due, job) {
+            return Err(Fault::StaleJob);
+        }
+        Ok(())
+    }
+
+    /// Room for the rows that a job writes here, so that `finish` takes no memory for it. Refused with `OutOfMemory`.
+    pub fn reserve_finish(&mut self, computed: &Computed<A>) -> Result<(), Fault>
+        ensures ok { OnOk result (length (local_writes self.old.here computed.now.writes) ≤ self.new.room) }
+        ensures rest { self.new ≡ record self.old { room = self.new.room } }
+        ensures room { self.old.room ≤ self.new.room }
+        ensures only { IsOkUnless result Fault.OutOfMemory }
+    {
+        let written = local_part::<A>(&computed.writes, &self.config, self.partition);
+        self.rows.reserve(written.len())?;
+        Ok(())
+    }
+
+    /// Takes what came of a job: what it writes here is put into the rows, its locks are released, and its request is done.
+    /// Answers what the request is told. Refused with `NotCollected` where no job is due at its place, with `StaleJob`
+    /// where another one is, else with `OutOfMemory` where more is written here than there is room for, and a growth was
+    /// refused.
+    pub fn finish(&mut self, computed: &Computed<A>) -> Result<Answer<A::Reply>, Fault>
+        ensures did { Finished A.meaning self.old.here self.old.room computed.now.job result self.old.scheduling self.new.scheduling }
+        ensures rest { self.new ≡ record self.old { scheduling = self.new.scheduling; room = self.new.room; due = self.new.due } }
+        ensures due { self.new.due ≡ left self.new.scheduling self.old.due }
+    {
+        let place = computed.job.place;
+        self.check_due(&computed.job)?;
+        let writes = local_part::<A>(&computed.writes, &self.config, self.partition);
+        self.rows.reserve(writes.len())?;
+        self.rows.put_all(place, &writes);
+        self.turns.finish(place);
+        let _released = self.locks.release(place);
+        self.progress.finish(place, self.opened, &self.turns);
+        Ok(computed.answer)
+    }
+
     /// The rows that the request at a place read here since the scheduler was opened. Refused with `NotServed` where it
     /// isn't admitted or has not begun.
     pub fn served(&self, place: Place) -> Result<View<A::Row>, Fault>
@@ -233,6 +293,36 @@ impl<A: App, L: Locks + Drop, S: Rows<A::Row> + Drop> Scheduler<A, L, S> {
         ensures { IsFirstReadyHere self.now.here self.now.scheduling after result }
     {
         self.locks.first_ready(after)
+    }
+
+    /// Tells that the next epoch is merged and has these requests: of those with a key here the places are due, whether they
+    /// are admitted before or after it. It takes time by their number. Refused with `AdmittedOutOfOrder` where the epoch
+    /// isn't the next one, counted from 0, or an entry's place isn't of this epoch; else with `OutOfMemory` where a request
+    /// has a key here and a growth was refused.
+    pub fn merged(&mut self, epoch: u64, entries: &[(Place, Txn<A::Args>)]) -> Result<(), Fault>
+        ensures { Did (list_any (λ e. has_local_key self.old.here e.1) entries.now) result (merge epoch entries.now self.old) self.old self.new }
+    {
+        if !self.progress.is_next(epoch, entries) {
+            return Err(Fault::AdmittedOutOfOrder);
+        }
+        self.progress
+            .reserve(entries, &self.config, self.partition)?;
+        self.progress
+            .merge(epoch, entries, &self.config, self.partition);
+        self.progress.skip_done(self.opened, &self.turns);
+        Ok(())
+    }
+
+    /// The greatest epoch at whose end the partition stands: it and all before it are merged, what they have to do here is
+    /// done, and nothing of a later one is done. It takes constant time.
+    pub fn stands_at(&self) -> Option<u64>
+        ensures { result ≡ stands_at self.now.scheduling self.now.merged self.now.due }
+    {
+        let end = self.progress.end();
+        if self.progress.is_before_all(end, self.opened) {
+            return None;
+        }
+        Some((end - 1) as u64)
     }
 
     /// The rows that are stored here.

@@ -93,6 +93,13 @@ impl<A: App> Turn<A> {
         self.phase
     }
 
+    /// Whether it did all that it does here.
+    pub fn is_done(&self) -> bool
+        ensures { result ≡ is_finished self.now.turn.phase }
+    {
+        self.phase == Phase::Done
+    }
+
     /// The rows that were read here.
     pub fn served(&self) -> View<A::Row>
         ensures { result ≡ self.now.turn.served }

@@ -3,6 +3,8 @@ ghost use Rattle.std.specs.Prelude.{◌≡◌, ◌-◌, ◌<◌, None, Some, max
 ghost use Rattle.std.specs.Option.{ForSome, option_copied};
 ghost use Rattle.std.specs.FinMap as map;
 ghost use Rattle.calvin_types.specs.Participants.{site};
+ghost use Rattle.calvin_sched.specs.Keeping.{turns_of};
+ghost use Rattle.calvin_sched.specs.Scheduling.{turn_done};
 ghost use Rattle.calvin_sched.specs.Steps.{begun_turn, serving, with_rows};
 ghost use Rattle.calvin_sched.specs.declared.phase.Phase.TheVariants.{Done};
 
@@ -55,6 +57,16 @@ impl<A: App> Turns<A> {
         ensures { option_copied result ≡ map.get self.now.kept place }
     {
         self.turns.get(&place)
+    }
+
+    /// Whether the request at a place is done; false where none is there.
+    pub fn is_done(&self, place: Place) -> bool
+        ensures { result ≡ turn_done (map.get (turns_of self.now.kept) place) }
+    {
+        match self.get(place) {
+            Some(turn) => turn.is_done(),
+            None => false,
+        }
     }
 
     /// Room for one more request at least.

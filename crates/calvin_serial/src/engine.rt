@@ -18,6 +18,7 @@ use calvin_text::{Printed, push_finished};
 use calvin_tokens::{OperationTokens, usual_script};
 use calvin_types::Fault;
 use std::alloc::Global;
+use std::mem;
 
 /// The text of the serial run of a script.
 fn text_of<A: Settles + Copy + Drop>(
@@ -74,7 +75,8 @@ where
 }
 
 /// The text for the bytes of a script for an application, where it is written as usual: it is read without its JSON as a
-/// value, and the bytes are given back before it is run.
+/// value, and the bytes are given back before it is run. What is read stays in memory: who runs a script ends
+/// thereafter, and to give back many small pieces one by one takes up to a twelfth of the whole run.
 fn usual_answer<A: Settles + Copy + Drop>(
     alloc: Global,
     app: A,
@@ -90,7 +92,9 @@ where
 {
     let script = usual_script(alloc, bytes)?;
     *bytes = Vec::new(alloc);
-    Some(text_of(alloc, app, &script, sets))
+    let text = text_of(alloc, app, &script, sets);
+    mem::forget(script);
+    Some(text)
 }
 
 /// The text for the bytes of a script, for the application that it names. A script of another application than the one
@@ -114,7 +118,8 @@ fn answer(alloc: Global, mut bytes: Vec<u8>, sets: UndeclaredSets) -> Result<Vec
 }
 
 /// Reads a script to the end of the source, runs the merged order of its epochs one request at a time on no rows, and
-/// writes a line for each request and then the last epoch. The whole text is built before any of it is written.
+/// writes a line for each request and then the last epoch. The whole text is built before any of it is written. It is
+/// made for a program that ends thereafter: what a script of the usual form took in memory isn't given back.
 pub fn serial<S: Source, K: Sink>(
     alloc: Global,
     sets: UndeclaredSets,

@@ -1,12 +1,14 @@
 -- A number that is written in digits alone.
 use Rattle.std.proofs.Common.{◌≡◌, ℕ, ◌+◌, ◌*◌, ◌^◌, ◌<◌, ◌≤◌, List, [], ◌∷◌, length, drop, Some, false, refl, sym, ap, ◌∙◌, append-nil, arith, lt-ltb}
 use Rattle.std.specs.Float.Numeral.{Parts, scan_numeral, minus}
-use Rattle.std.specs.Prelude.{slice_index, ◌==◌}
+use Rattle.std.specs.Char.{digit_value}
+use Rattle.std.specs.Prelude.{slice_index, slice_index_or, ◌==◌}
 use Rattle.std.specs.Str.Parse.{AllDigits, digits_value, digits_value_after}
 use Rattle.std.proofs.lemmas.Bool.Decides.{nat_tests}
 use Rattle.std.proofs.lemmas.Float.Parse.{scan_numeral-text_of}
 use Rattle.std.proofs.lemmas.Grind.{pow_more}
 use Rattle.std.proofs.lemmas.Int.Digits.{digits_value-lt}
+use Rattle.std.proofs.lemmas.List.{drop_more, drop_all}
 use Rattle.std.proofs.lemmas.Str.Parse.{digit_from_value}
 use Rattle.std.proofs.Math.Nat.{pow-le-pow_right}
 use Rattle.serde_json.specs.Data.{unsigned}
@@ -43,7 +45,24 @@ pub record Read (s : List ℕ) (i n : ℕ) : Type 0 where
   pub digits : AllDigits 10 (drop i s) → AllDigits 10 s
   pub bound : n < 10 ^ i
 
-pub read_fits : (i n d : ℕ) → i < 19 → d ≤ 9 → n < 10 ^ i → n * 10 + d < 2 ^ 64
-read_fits i n d few small h =
-    let more : n * 10 + d < 10 ^ (i + 1) = rw (pow_more 10 i) (omega (arith, h, small)) in
-    below (i + 1) (n * 10 + d) (omega arith) more
+-- one digit more
+pub next_read : (s : List ℕ) (i n m : ℕ) → i < length s → (digit_value (slice_index_or s i 0) < 10) × (m ≡ n * 10 + digit_value (slice_index_or s i 0)) → Read s i n → Read s (i + 1) m
+next_read s i n m here h r =
+    let split : drop i s ≡ slice_index_or s i 0 ∷ drop (i + 1) s = drop_more s i 0 here in
+    record {
+      value = ap (λ k. digits_value_after 10 k (drop (i + 1) s)) h.1 ∙ sym (ap (λ l. digits_value_after 10 n l) split) ∙ r.value;
+      digits = λ rest. r.digits (rw split (h.0, rest));
+      bound = rw (pow_more 10 i) (omega (arith, h.0, h.1, r.bound));
+    }
+
+-- another digit fits behind at most 18
+pub read_fits : (i n : ℕ) → i < 19 → n < 10 ^ i → n < 10 ^ 18
+read_fits i n few h =
+    let at_most : i ≤ 18 = omega (arith, few) in
+    let most : 10 ^ i ≤ 10 ^ 18 = pow-le-pow_right (omega arith) at_most in
+    omega (arith, most, h)
+
+pub all_read : (s : List ℕ) (i n : ℕ) → length s ≤ i → Read s i n → AllDigits 10 s × (n ≡ digits_value 10 s)
+all_read s i n most r =
+    let none = drop_all i s most in
+    (r.digits (rw none tt), sym (ap (λ l. digits_value_after 10 n l) none) ∙ r.value)

@@ -1,5 +1,6 @@
 //! Tokens that stand where they usually do. Where others stand there is no answer, and any tokens may be left.
-ghost use Rattle.std.specs.Prelude.{◌≡◌, ◌∷◌, ◌^◌, ◌≤◌, length, option_map, IfSome, OnSome, IsTrue, IsFalse};
+ghost use Rattle.std.specs.Prelude.{◌≡◌, ◌∷◌, ◌^◌, ◌+◌, ◌*◌, ◌<◌, ◌≤◌, length, option_map, IfSome, OnSome, IsTrue, IsFalse};
+ghost use Rattle.std.specs.Char.{digit_value};
 ghost use Rattle.std.specs.Str.Parse.{AllDigits, digits_value};
 ghost use Rattle.json.specs.Token as token;
 ghost use Rattle.serde_json.specs.Data.{unsigned, number};
@@ -10,6 +11,18 @@ ghost use Rattle.calvin_tokens.specs.Spelled.{Reads, Spells, key_or_end};
 use fast_float::Numeral;
 use json::{Reader, Token};
 
+/// The number that is written by the digits of another one and one digit behind them.
+#[inline(always)]
+fn next_digit(n: u64, byte: u8) -> Option<u64>
+    requires { n < 10 ^ 18 }
+    ensures { IfSome result (λ more. (digit_value byte < 10) × (more ≡ n * 10 + digit_value byte)) }
+{
+    if !byte.is_ascii_digit() {
+        return None;
+    }
+    Some(n * 10 + (byte - b'0') as u64)
+}
+
 /// The number that at most 19 digits write.
 #[inline(always)]
 fn short_digits(bytes: &[u8]) -> Option<u64>
@@ -17,11 +30,14 @@ fn short_digits(bytes: &[u8]) -> Option<u64>
     ensures { IfSome result (λ n. AllDigits 10 bytes.now × (n ≡ digits_value 10 bytes.now)) }
 {
     let mut n = 0;
-    for byte in bytes {
-        if !byte.is_ascii_digit() {
-            return None;
-        }
-        n = n * 10 + (*byte - b'0') as u64;
+    let mut i = 0;
+    while i + 1 < bytes.len() {
+        n = next_digit(n, bytes[i])?;
+        n = next_digit(n, bytes[i + 1])?;
+        i += 2;
+    }
+    if i < bytes.len() {
+        n = next_digit(n, bytes[i])?;
     }
     Some(n)
 }
@@ -33,11 +49,14 @@ fn digits_of(text: &str) -> Option<u64>
     ensures { IfSome result (λ n. number_of text.now ≡ Some (unsigned n)) }
 {
     let bytes = text.as_bytes();
-    if bytes.is_empty() || bytes[0] == b'-' {
+    if bytes.is_empty() {
         return None;
     }
     if bytes.len() < 20 {
         return short_digits(bytes);
+    }
+    if bytes[0] == b'-' {
+        return None;
     }
     Numeral::scan(bytes).to_u64()
 }

@@ -37,7 +37,7 @@ use Rattle.calvin_types.specs.declared.place.Place.{Place}
 use Rattle.calvin_types.specs.declared.place.Slot.{Slot}
 use Rattle.calvin_types.specs.declared.txn.Txn.{Txn}
 use Rattle.calvin_world.proofs.Cases.{Handles, Acts, handle_does, acts_does}
-use Rattle.calvin_world.proofs.Standing.{done_all, stands_is}
+use Rattle.calvin_bench.proofs.Standing.{done_all, stands_is}
 use Rattle.calvin_world.proofs.RowsAtEnd.{rows_at_end, rows_upto}
 use Rattle.calvin_world.specs.Promises.{held_by, StandsAtEnd, IsNode, IsChosenUpTo, rows_after, Agrees, IsSerial, PointsAreSerial, StandAlike}
 use Rattle.calvin_node.specs.declared.act.Act.{Act}
@@ -55,7 +55,8 @@ use Rattle.calvin_bench.proofs.KeyRows.{same_rows, get-part}
 use Rattle.calvin_bench.proofs.SerialRows.{answer_at, only_one}
 use Rattle.calvin_bench.proofs.OneReplica.{rows_at_point}
 use Rattle.calvin_bench.proofs.ManyReplicas.{opening_keeps, holds_from}
-use Rattle.calvin_world.proofs.Lists.{contains_at, none_in, get_none, get_map, was_map, same_index}
+use Rattle.calvin_bench.proofs.Lists.{contains_at, none_in, get_none, get_map, was_map}
+use Rattle.calvin_world.proofs.Indexes.{same_index}
 use Rattle.calvin_world.proofs.Kept.{synod_of, member_of, seats_of, sent_in, Kept, its_id, after, owed_keeps}
 use Rattle.calvin_world.proofs.Owed.{handles_owed, acts_owed}
 use Rattle.calvin_world.proofs.Mirror.{one_chosen, held_is, Bounds, mirror_node, mirror, Mirrored}

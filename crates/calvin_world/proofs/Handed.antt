@@ -30,7 +30,7 @@ use Rattle.calvin_types.specs.declared.place.NodeId.{NodeId}
 use Rattle.calvin_types.specs.declared.place.Place.{Place}
 use Rattle.calvin_types.specs.declared.txn.Txn.{Txn}
 use Rattle.calvin_world.proofs.Kept.{Kept, its_id}
-use Rattle.calvin_world.proofs.Lists.{get_map}
+use Rattle.calvin_bench.proofs.Lists.{get_map}
 use Rattle.calvin_world.proofs.Mirror.{one_chosen, since, Bounds, mirror_node, Mirrored}
 use Rattle.calvin_world.specs.Promises.{loaded_epochs, IsNode, IsChosenUpTo, IsHanded}
 use Rattle.calvin_world.specs.Worlds.{WorldState, index_of}

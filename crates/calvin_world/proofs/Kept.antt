@@ -23,7 +23,8 @@ use Rattle.calvin_synod.proofs.Majorities.{majority_member}
 use Rattle.calvin_synod.proofs.Core.{Said, Reports, Proposes, Votes}
 use Rattle.calvin_synod.proofs.Replicas.{Seat, Holds}
 use Rattle.calvin_synod.proofs.Cases.{seat_of, Tells, Says, SpeaksOf, RightDeed, deed_keeps, idle_keeps}
-use Rattle.calvin_world.proofs.Lists.{set_here, set_other, none_in, only_in, first_in, from_map, same_index}
+use Rattle.calvin_bench.proofs.Lists.{set_here, set_other, none_in, only_in, first_in, from_map}
+use Rattle.calvin_world.proofs.Indexes.{same_index}
 
 some_is : {X : Type 0} {x y : X} → Some x ≡ Some y → x ≡ y
 some_is e = cc

@@ -1,10 +1,9 @@
 pub mod Cases
-pub mod Lists
+pub mod Indexes
 pub mod Kept
 pub mod Given
 pub mod Owed
 pub mod RowsAtEnd
-pub mod Standing
 pub mod Mirror
 pub mod Settling
 pub mod Handed

@@ -28,7 +28,7 @@ use Rattle.calvin_world.specs.Worlds.{WorldState, index_of}
 use Rattle.calvin_synod.proofs.Core.{agreement}
 use Rattle.calvin_bench.specs.Lives
 use Rattle.calvin_bench.proofs.ManyReplicas.{WorldKeeps, event_keeps}
-use Rattle.calvin_world.proofs.Lists.{set_here, set_other, get_left, get_right, get_split, get_map, set_map, set_same}
+use Rattle.calvin_bench.proofs.Lists.{set_here, set_other, get_left, get_right, get_split, get_map, set_map, set_same}
 use Rattle.calvin_world.proofs.Kept.{Kept, chosen_group, after, chosen_on}
 
 some_is : {X : Type 0} {x y : X} → Some x ≡ Some y → x ≡ y

@@ -33,13 +33,13 @@ use Rattle.calvin_types.specs.declared.place.Place.{Place}
 use Rattle.calvin_types.specs.declared.place.Slot.{Slot}
 use Rattle.calvin_types.specs.declared.txn.Txn.{Txn}
 use Rattle.calvin_world.proofs.Cases.{TakesAtEnd, MarksAtEnd, Handles, Acts, restarted_synod}
-use Rattle.calvin_world.proofs.Standing.{local_in, local_joined, DoneHere, done_all, all_earlier, stands_is}
+use Rattle.calvin_bench.proofs.Standing.{local_in, local_joined, DoneHere, done_all, all_earlier, stands_is}
 use Rattle.calvin_world.specs.Promises.{loaded_epochs, held_by, StandsAtEnd, IsNode}
 use Rattle.calvin_node.specs.declared.act.Act.{Act}
 use Rattle.calvin_node.specs.declared.act.Act.TheVariants.{Submit, SubmitCold, Cool, Close, Merge, Lock, Restart, Propose, Snapshot, Mark, Begin, Finish, AskForReads, AskForBatch}
 use Rattle.calvin_world.specs.Worlds.{WorldState, index_of}
 use Rattle.calvin_bench.specs.Lives
-use Rattle.calvin_world.proofs.Lists.{none_in, only_in, first_in, from_map, get_none, get_only, get_map}
+use Rattle.calvin_bench.proofs.Lists.{none_in, only_in, first_in, from_map, get_none, get_only, get_map}
 use Rattle.calvin_world.proofs.Given.{holding_grows}
 use Rattle.calvin_world.proofs.Kept.{Kept, its_id, after}
 use Rattle.calvin_world.proofs.Owed.{letters_word, telling_word, warm_word}

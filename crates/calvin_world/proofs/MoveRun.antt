@@ -33,7 +33,7 @@ use Rattle.calvin_bench.proofs.Insertions.{insert_each}
 use Rattle.calvin_sched.specs.declared.phase.Phase.{Phase}
 use Rattle.calvin_sched.specs.declared.phase.Phase.TheVariants as phase
 use Rattle.calvin_sched.specs.Scheduling.{Turn, Scheduling, new_turn, turn_at, turn_done, with_turn, is_before, is_done, is_collected, awaits, whole_view, put_some, local_writes}
-use Rattle.calvin_sched.specs.Standing.{stands, stands_at, none_done_from, greatest_below}
+use Rattle.calvin_sched.specs.Standing.{stands, none_done_from, greatest_below}
 use Rattle.calvin_sched.specs.Steps as sched
 use Rattle.calvin_sched.proofs.Readiness.{none_kept}
 use Rattle.calvin_node.specs.declared.act.Act.TheVariants.{Lock, Begin, Finish}

@@ -33,7 +33,7 @@ use Rattle.calvin_synod.proofs.Replicas.{HoldsAt, holds_at}
 use Rattle.calvin_synod.proofs.Core.{Said}
 use Rattle.calvin_synod.proofs.Cases.{seat_of, Tells, SpeaksOf, RightDeed, Gives, handle_right, handle_speaks, handle_gives, propose_speaks, propose_gives, restart_right, propose_right}
 use Rattle.calvin_synod.proofs.Giving.{gives_slot}
-use Rattle.calvin_world.proofs.Lists.{none_in, only_in, from_map}
+use Rattle.calvin_bench.proofs.Lists.{none_in, only_in, from_map}
 use Rattle.calvin_world.proofs.Given.{GivesAll, handle_gives_all, propose_gives_all, holding_grows, counted_grows, given_held}
 use Rattle.calvin_world.proofs.Kept.{synod_of, sent_in, AreQuiet, none_quiet, SayTheSame, letters_say, say_more, told, Kept, its_id, Moves, chosen_on, Owed}
 

@@ -13,7 +13,7 @@ use Rattle.calvin_order.specs.Merged.{Batch}
 use Rattle.calvin_order.specs.Sequencing.{Sequencing, first_not, closed_in, is_decided, is_used, next_epoch, same_attempt, left_over, HeldBack, ripe, ripened, ticked, delayed, closing, decide}
 use Rattle.calvin_synod.specs.Quorums.{IsIn}
 use Rattle.calvin_synod.proofs.Majorities.{distinct_one_more, distinct_none, is_in_cases, is_in_head, is_in_tail}
-use Rattle.calvin_world.proofs.Lists.{none_in, only_in, of_append, of_filter, of_take, of_drop, map_from}
+use Rattle.calvin_bench.proofs.Lists.{none_in, only_in, of_append, of_filter, of_take, of_drop, map_from}
 
 abbrev pub slot_at : ℕ → ℕ → Slot
 slot_at p e = record { epoch = e; group = p }

@@ -16,7 +16,7 @@ use Rattle.calvin_world.specs.Worlds.{WorldState}
 use Rattle.calvin_bench.specs.Lives
 use Rattle.calvin_order.proofs.Standing.{stands_left}
 use Rattle.calvin_bench.proofs.ManyReplicas.{settle_keeps}
-use Rattle.calvin_world.proofs.Lists.{map_twice}
+use Rattle.calvin_bench.proofs.Lists.{map_twice}
 use Rattle.calvin_world.proofs.Kept.{Kept}
 use Rattle.calvin_sched.specs.Standing.{local_places}
 use Rattle.calvin_bench.specs.Turns.{site_of}

@@ -47,7 +47,7 @@ use Rattle.calvin_world.specs.declared.event.Outcome.TheVariants.{Done, Refused}
 use Rattle.calvin_world.specs.Worlds.{WorldState, index_of, opening, node_at, carry_out, at_node, deliver_to, deliver, happens, Step, Leads}
 use Rattle.calvin_world.specs.Promises.{IsNode, Chosen, IsChosenUpTo, IsSubmitFor, Submits, Sometime}
 use Rattle.calvin_world.proofs.Cases.{Acts, handle_does, acts_does}
-use Rattle.calvin_world.proofs.Lists.{only_in, set_here, set_other, get_map, contains_at, none_in, first_in, rest_too, of_append}
+use Rattle.calvin_bench.proofs.Lists.{only_in, set_here, set_other, get_map, contains_at, none_in, first_in, rest_too, of_append}
 use Rattle.calvin_world.proofs.Mirror.{one_chosen}
 use Rattle.calvin_world.proofs.Kept.{AreQuiet, none_quiet, quiet_says_nothing, sent_cases, Kept, chosen_group, its_id, after, chosen_on}
 use Rattle.calvin_world.proofs.Owed.{warm_word}

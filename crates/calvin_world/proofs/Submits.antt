@@ -34,7 +34,7 @@ use Rattle.calvin_node.specs.Acting.{submitted}
 use Rattle.calvin_world.specs.Worlds.{WorldState, index_of}
 use Rattle.calvin_world.specs.Promises.{IsNode}
 use Rattle.calvin_world.proofs.Cases.{Handles, Acts, restarted_synod}
-use Rattle.calvin_world.proofs.Lists.{set_here, set_other, none_in, only_in}
+use Rattle.calvin_bench.proofs.Lists.{set_here, set_other, none_in, only_in}
 use Rattle.calvin_world.proofs.Kept.{sent_in, sent_cases, AreQuiet, none_quiet, each_quiet, quiet_says_nothing, letters_say, say_more, Kept, its_id, after, seat_before}
 use Rattle.calvin_world.proofs.Owed.{telling_word, warm_word}
 use Rattle.calvin_synod.proofs.Proposing.{AreGood, IsGoodDeed, handle_good, propose_good}

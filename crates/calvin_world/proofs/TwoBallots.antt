@@ -1,5 +1,5 @@
 -- Three replicas and two ballots for one slot, event by event: the second ballot keeps the vote that it is told of, and the first is refused.
-use Rattle.std.proofs.Common.{◌≡◌, ℕ, cond, List, [], ◌∷◌, ◌++◌, inl, Option, Some, None, refl, sym, ap, subst}
+use Rattle.std.proofs.Common.{◌≡◌, ℕ, cond, [], ◌∷◌, ◌++◌, inl, Option, Some, None, refl, sym, ap, subst}
 use Rattle.std.specs.Prelude.{is_some}
 use Rattle.std.specs.FinMap.{get, insert, empty, get-empty}
 use Rattle.calvin_types.specs.declared.fault.Fault.TheVariants as fault

@@ -1,7 +1,7 @@
 -- Worked cases of a world of three replicas and one partition, over numbers by key: a second ballot for a slot keeps the vote that
 -- it is told of, and the first ballot is refused from then on ("Paxos Made Simple", section 2.2: a proposal has the value of
 -- the greatest one reported; an acceptor accepts no proposal below its promise). The numbers are of this project.
-use Rattle.std.specs.Prelude.{◌≡◌, ℕ, true, List, [], ◌∷◌, ◌++◌, Some, None}
+use Rattle.std.specs.Prelude.{ℕ, List, [], ◌∷◌, ◌++◌, Some, None}
 use Rattle.calvin_types.specs.declared.fault.Fault.TheVariants as fault
 use Rattle.calvin_types.specs.declared.place.Ballot.{Ballot}
 use Rattle.calvin_types.specs.declared.place.NodeId.{NodeId}

@@ -7,4 +7,4 @@ pub returns-clause-text : goal.returns-clause-text
 returns-clause-text g c =
     let same : c.deref.result.now ≡ c.args.bytes.now.items = search rules in
     let read = c.in_ok-script.ensures in
-    (contents c.in_ok-script.script, rw same at read, text_reads c.text_of.result _ _ refl c.text_of.ensures.text c.text_of.ensures.only)
+    (contents c.in_ok-script.script, rw same at read, text_reads c.text_of-text.result _ _ refl c.text_of-text.ensures.text c.text_of-text.ensures.only)

@@ -1,4 +1,4 @@
-use Rattle.std.proofs.Common.{rules, ℕ, ◌≡◌, ◌≤◌, ◌<◌, max, ap, sym, ◌∙◌, arith}
+use Rattle.std.proofs.Common.{max, ap, sym, ◌∙◌, arith}
 use Rattle.std.proofs.Math.Nat.{max-eq_left}
 use Rattle.calvin_sched.proofs.NumberMaps.{same}
 use Rattle.calvin_sched.proofs.came.Came.reserve.Goals as goal

@@ -1,5 +1,5 @@
 use Rattle.calvin_lock.specs.Locking.{with_request}
-use Rattle.std.proofs.Common.{rules, ◌≡◌, cond, length, ◌≤◌, Bool, true, false, Some, None, Ok, Err, inl, inr, refl, sym, ap, subst, ◌∙◌}
+use Rattle.std.proofs.Common.{◌≡◌, cond, length, ◌≤◌, Some, Ok, Err, inl, inr, refl, sym, ap, subst, ◌∙◌}
 use Rattle.std.proofs.lemmas.Bool.{and_parts}
 use Rattle.std.proofs.lemmas.Result.{err_from_is_err_and}
 use Rattle.calvin_types.specs.declared.fault.Fault.TheVariants as fault
@@ -8,10 +8,11 @@ use Rattle.calvin_sched.specs.Steps.{admitted}
 use Rattle.std.specs.FinMap.{insert}
 use Rattle.calvin_types.specs.Participants.{site, has_local_key}
 use Rattle.calvin_lock.proofs.LocalLocks.{some_local_key}
-use Rattle.calvin_sched.specs.Keeping.{scheduling_of, turns_of, awaited, IsScheduler, Did}
-use Rattle.calvin_sched.specs.Scheduling.{is_past, is_before, with_turn, new_turn}
+use Rattle.calvin_sched.specs.Keeping.{scheduling_of, turns_of, awaited, Did}
+use Rattle.calvin_sched.specs.Scheduling.{is_past, is_finished, with_turn, new_turn}
 use Rattle.calvin_order.specs.Merged.{end_of}
-use Rattle.calvin_sched.proofs.Keepers.{put_turn}
+use Rattle.calvin_sched.proofs.Keepers.{put_turn, keeps_passed}
+use Rattle.calvin_sched.proofs.Progresses.{progress_admitted, left_admitted, passes}
 use Rattle.calvin_sched.proofs.Admitting.{admitted_keeps}
 use Rattle.calvin_sched.proofs.scheduler.Scheduler.admit.Goals as goal
 
@@ -19,7 +20,7 @@ pub returns-in_err-request-clause-did : goal.returns-in_err-request-clause-did
 returns-in_err-request-clause-did g c =
     let here = site c.self.inside.config.partitions c.self.inside.partition in
     let next = sym c.is_next.ensures ∙ c.if-not-is_next.false in
-    let past = c.self.invariant.asked c.args.place (ap (λ v. is_past v.scheduling.last c.args.place) c.self.view_is ∙ (and_parts _ _ next).0) in
+    let past = c.self.invariant.0.asked c.args.place (ap (λ v. is_past v.scheduling.last c.args.place) c.self.view_is ∙ (and_parts _ _ next).0) in
     let local = sym c.is_participant.ensures ∙ c.if-not-is_participant.false in
     let refused = c.in_err-request.ensures in
     let memory : c.in_err-request.field-0.0 ≡ fault.OutOfMemory = elim refused.only [
@@ -35,13 +36,17 @@ returns-in_err-request-clause-did g c =
     (ap (λ v. has_local_key v.here c.args.txn.now) (sym c.self.view_is) ∙ local, p.2 ∙ memory, same))
 
 pub invariant_of-self-2 : goal.invariant_of-self-2
-invariant_of-self-2 g c =
-    admitted_keeps (site c.self.inside.config.partitions c.self.inside.partition) c.self.inside.opened c.self.inside.last c.self.inside.turns.kept (g.S.Rows.store c.self.inside.rows) (g.L.Locks.kept c.self.inside.locks) c.self.invariant
-    c.args.place c.args.txn.now c.in_ok-turn.turn
-    (ap (λ v. is_past v.scheduling.last c.args.place) c.self.view_is ∙ (and_parts _ _ (sym c.is_next.ensures ∙ c.if-not-is_next.false)).0)
-    c.in_ok-turn.ensures.turn (subst (λ v. length (awaited v.here c.in_ok-turn.turn.turn) ≤ c.in_ok-turn.turn.room) (sym c.self.view_is) c.in_ok-turn.ensures.room) c.up_to_last.ensures c.insert.new.self.kept
-    (ap (λ t. t.kept) c.insert.ensures ∙ ap (λ t. insert t.kept c.args.place c.in_ok-turn.turn) c.in_ok-reserve.ensures.ok)
-    (g.L.Locks.kept c.request.new.self) (c.in_ok-request.ensures.ok ∙ (λ i. with_request c.args.place (record { reads = c.part-reads.ensures i; writes = c.part-writes.ensures i }) (g.L.Locks.kept c.self.inside.locks)))
+invariant_of-self-2 g c = (
+  admitted_keeps (site c.self.inside.config.partitions c.self.inside.partition) c.self.inside.opened c.self.inside.last c.self.inside.turns.kept (g.S.Rows.store c.self.inside.rows) (g.L.Locks.kept c.self.inside.locks) c.self.invariant.0
+      c.args.place c.args.txn.now c.in_ok-turn.turn
+      (ap (λ v. is_past v.scheduling.last c.args.place) c.self.view_is ∙ (and_parts _ _ (sym c.is_next.ensures ∙ c.if-not-is_next.false)).0)
+      c.in_ok-turn.ensures.turn (subst (λ v. length (awaited v.here c.in_ok-turn.turn.turn) ≤ c.in_ok-turn.turn.room) (sym c.self.view_is) c.in_ok-turn.ensures.room) c.up_to_last.ensures c.insert.new.self.kept
+      (ap (λ t. t.kept) c.insert.ensures ∙ ap (λ t. insert t.kept c.args.place c.in_ok-turn.turn) c.in_ok-reserve.ensures.ok)
+      (g.L.Locks.kept c.request.new.self) (c.in_ok-request.ensures.ok ∙ (λ i. with_request c.args.place (record { reads = c.part-reads.ensures i; writes = c.part-writes.ensures i }) (g.L.Locks.kept c.self.inside.locks))),
+  progress_admitted c.self.inside.opened c.self.inside.last c.self.inside.turns.kept c.self.inside.progress.merged c.self.inside.progress.done c.self.inside.progress.due.items c.self.invariant.1 c.args.place c.in_ok-turn.turn c.insert.new.self.kept
+      (ap (λ t. t.kept) c.insert.ensures ∙ ap (λ t. insert t.kept c.args.place c.in_ok-turn.turn) c.in_ok-reserve.ensures.ok)
+      (ap (λ v. is_past v.scheduling.last c.args.place) c.self.view_is ∙ (and_parts _ _ (sym c.is_next.ensures ∙ c.if-not-is_next.false)).0) (ap (λ x. is_finished x.phase) c.in_ok-turn.ensures.turn),
+)
 
 pub returns-clause-did : goal.returns-clause-did
 returns-clause-did g c =
@@ -57,3 +62,24 @@ returns-clause-did g c =
     let new = waiting ∙ asked ∙ ap (λ v. admitted v.here v.scheduling c.args.place c.args.txn.now) c.self.view_is in
     let does = ap (λ b. cond b (Does (admitted c.args.self.now.here c.args.self.now.scheduling c.args.place c.args.txn.now) tt) (Refuses fault.AdmittedOutOfOrder)) next in
     subst (λ d. Did (has_local_key c.args.self.now.here c.args.txn.now) (Ok tt) d c.args.self.now.scheduling (scheduling_of c.self.inside.opened (Some c.args.place) c.insert.new.self.kept store)) (sym does) (refl, new)
+
+pub invariant_of-self : goal.invariant_of-self
+invariant_of-self g c =
+    let past = (ap (λ v. is_past v.scheduling.last c.args.place) c.self.view_is ∙ (and_parts _ _ (sym c.is_next.ensures ∙ c.if-not-is_next.false)).0) in (
+      keeps_passed (site c.self.inside.config.partitions c.self.inside.partition) (scheduling_of c.self.inside.opened c.self.inside.last c.self.inside.turns.kept (g.S.Rows.store c.self.inside.rows)) c.self.inside.turns.kept (g.L.Locks.kept c.self.inside.locks) c.self.invariant.0
+          c.args.place (c.self.invariant.0.asked c.args.place past),
+      passes c.self.inside.opened c.self.inside.last (turns_of c.self.inside.turns.kept) c.self.inside.progress.merged c.self.inside.progress.done c.self.inside.progress.due.items c.self.invariant.1 c.args.place past,
+    )
+
+pub returns-clause-rest : goal.returns-clause-rest
+returns-clause-rest g c =
+    let due = left_admitted c.self.inside.opened c.self.inside.last c.self.inside.turns.kept c.self.inside.progress.merged c.self.inside.progress.done c.self.inside.progress.due.items c.self.invariant.1 c.args.place c.in_ok-turn.turn c.insert.new.self.kept
+    (ap (λ t. t.kept) c.insert.ensures ∙ ap (λ t. insert t.kept c.args.place c.in_ok-turn.turn) c.in_ok-reserve.ensures.ok)
+    (ap (λ v. is_past v.scheduling.last c.args.place) c.self.view_is ∙ (and_parts _ _ (sym c.is_next.ensures ∙ c.if-not-is_next.false)).0) (ap (λ x. is_finished x.phase) c.in_ok-turn.ensures.turn) (g.S.Rows.store c.self.inside.rows) ∙ ap (λ v. v.due) c.self.view_is in
+    λ i. record {
+      here = (c.self.view_is i).here;
+      scheduling = scheduling_of c.self.inside.opened (Some c.args.place) c.insert.new.self.kept (g.S.Rows.store c.self.inside.rows);
+      room = (c.self.view_is i).room;
+      merged = (c.self.view_is i).merged;
+      due = due i;
+    }

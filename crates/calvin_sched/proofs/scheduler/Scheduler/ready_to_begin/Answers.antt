@@ -1,8 +1,7 @@
-use Rattle.std.proofs.Common.{rules, ◌≡◌, true, false, Some, ◌↔◌, refl, sym, ap, subst, ◌∙◌}
+use Rattle.std.proofs.Common.{◌≡◌, true, false, Some, ◌↔◌, sym, ap, subst, ◌∙◌}
 use Rattle.std.proofs.lemmas.Bool.{false≢true}
-use Rattle.calvin_types.specs.Participants.{site, is_active}
+use Rattle.calvin_types.specs.Participants.{is_active}
 use Rattle.calvin_lock.specs.Ready.{IsReady}
-use Rattle.calvin_sched.specs.Keeping.{scheduling_of}
 use Rattle.calvin_sched.specs.Scheduling.{is_finished, turn_at}
 use Rattle.calvin_sched.specs.Steps.{is_ready}
 use Rattle.calvin_sched.proofs.Begins.{not_yet}
@@ -13,7 +12,7 @@ pub returns-then-not-is_ready-clause-err : goal.returns-then-not-is_ready-clause
 returns-then-not-is_ready-clause-err g c =
     let x = c.in-Some.turn.now.turn in
     let test = subst (λ v. turn_at v.scheduling c.args.place ≡ Some x → is_finished x.phase ≡ false → IsReady (g.L.Locks.kept c.self.inside.locks).requested c.args.place ↔ (is_ready v.here v.scheduling c.args.place x.request ≡ true))
-    c.self.view_is (λ there waits. ready_of _ _ _ _ c.self.invariant c.args.place x there waits) c.in-Some.ensures (ap is_finished (sym c.in-Waiting.ensures)) in
+    c.self.view_is (λ there waits. ready_of _ _ _ _ c.self.invariant.0 c.args.place x there waits) c.in-Some.ensures (ap is_finished (sym c.in-Waiting.ensures)) in
     not_yet c.args.self.now.here c.args.self.now.scheduling c.args.place x c.in-Some.ensures (sym c.in-Waiting.ensures)
     (λ ready. false≢true (sym c.if-not-is_ready.true ∙ c.is_ready.ensures.1 (test.1 ready)))
 
@@ -21,7 +20,7 @@ pub returns-clause-ok : goal.returns-clause-ok
 returns-clause-ok g c =
     let x = c.in-Some.turn.now.turn in
     let test = subst (λ v. turn_at v.scheduling c.args.place ≡ Some x → is_finished x.phase ≡ false → IsReady (g.L.Locks.kept c.self.inside.locks).requested c.args.place ↔ (is_ready v.here v.scheduling c.args.place x.request ≡ true))
-    c.self.view_is (λ there waits. ready_of _ _ _ _ c.self.invariant c.args.place x there waits) c.in-Some.ensures (ap is_finished (sym c.in-Waiting.ensures)) in (
+    c.self.view_is (λ there waits. ready_of _ _ _ _ c.self.invariant.0 c.args.place x there waits) c.in-Some.ensures (ap is_finished (sym c.in-Waiting.ensures)) in (
       x,
       c.in-Some.ensures,
       sym c.in-Waiting.ensures,

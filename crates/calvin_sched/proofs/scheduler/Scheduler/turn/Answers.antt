@@ -1,6 +1,5 @@
-use Rattle.std.proofs.Common.{rules, Option, Some, None, ◌≡◌, refl, sym, ap, ◌∙◌}
-use Rattle.std.specs.Option.{MatchOption, option_copied, option_map}
-use Rattle.std.specs.FinMap as map
+use Rattle.std.proofs.Common.{sym, ap, ◌∙◌}
+use Rattle.std.specs.Option.{option_map}
 use Rattle.calvin_sched.specs.Scheduling.{turn_at}
 use Rattle.calvin_sched.proofs.Keepers.{get_turn, found_or_not}
 use Rattle.calvin_sched.proofs.scheduler.Scheduler.turn.Goals as goal

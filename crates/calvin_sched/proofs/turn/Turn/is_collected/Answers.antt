@@ -1,4 +1,4 @@
-use Rattle.std.proofs.Common.{rules, sym, ap, ◌∙◌, arith}
+use Rattle.std.proofs.Common.{sym, ap, ◌∙◌}
 use Rattle.std.specs.List.{slice_get}
 use Rattle.calvin_types.proofs.ListTests.{all_missed, all_next}
 use Rattle.calvin_sched.proofs.turn.Turn.is_collected.Goals as goal

@@ -1,7 +1,4 @@
-use Rattle.std.proofs.Common.{rules, ℕ, Bool, ◌+◌, ◌++◌, ◌∷◌, [], not, ◌&&◌, length, length-append, sym, ap, ◌∙◌, arith}
-use Rattle.std.specs.Prelude.{◌==◌}
-use Rattle.std.specs.List.{filter, range_with_len}
-use Rattle.calvin_types.specs.Participants.{site, is_active}
+use Rattle.std.proofs.Common.{◌++◌, ◌∷◌, [], length, length-append, sym, ap, ◌∙◌, arith}
 use Rattle.calvin_sched.proofs.Partitions.{one_more, none_more}
 use Rattle.calvin_sched.proofs.turn.Turn.others.Goals as goal
 use Rattle.calvin_sched.proofs.turn.Turn.others.Goals.{then-is_run_at, else-is_run_at}

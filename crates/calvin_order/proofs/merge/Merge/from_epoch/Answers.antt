@@ -1,7 +1,7 @@
 use Rattle.std.proofs.Common.{sym, subst}
 use Rattle.calvin_order.specs.Merging.{EpochsFit}
 use Rattle.calvin_order.proofs.Ranges.{none_in_range}
-use Rattle.calvin_order.proofs.merge.Merge.new.Goals as goal
+use Rattle.calvin_order.proofs.merge.Merge.from_epoch.Goals as goal
 
 pub invariant_of-result : goal.invariant_of-result
 invariant_of-result g c = record {

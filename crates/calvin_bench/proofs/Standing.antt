@@ -17,7 +17,7 @@ use Rattle.calvin_sched.specs.Standing.{local_places, none_done_from, all_done, 
 use Rattle.calvin_sched.proofs.Readiness.{none_passes, both_true}
 use Rattle.calvin_bench.specs.Turns.{IsDone}
 use Rattle.calvin_bench.proofs.Placing.{is_lt_true}
-use Rattle.calvin_world.proofs.Lists.{none_in, first_or_rest, rest_too, first_in}
+use Rattle.calvin_bench.proofs.Lists.{none_in, first_or_rest, rest_too, first_in}
 
 -- what passes for all of a list passes for each
 pub all_in : {X : Type 0} (p : X → Bool) (xs : List X) (x : X) → list_all p xs ≡ true → Contains xs x → p x ≡ true

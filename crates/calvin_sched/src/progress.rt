@@ -1,0 +1,170 @@
+//! How far the epochs are merged and done.
+ghost use Rattle.std.specs.Prelude.{◌≡◌, ◌⊎◌, ◌&&◌, MatchBool, ◌++◌, ◌+◌, ◌≤◌, ◌<◌, ◌==◌, [], max, length, OnOk, IfErr};
+ghost use Rattle.std.specs.List.{list_all};
+ghost use Rattle.std.specs.VecDeque.{deque_len, deque_capacity};
+ghost use Rattle.calvin_types.specs.Participants.{site};
+ghost use Rattle.calvin_sched.specs.Standing.{local_places};
+ghost use Rattle.calvin_sched.specs.Progress.{from_left, end_of_due, done_at, passes_first};
+
+use crate::turns::Turns;
+use calvin_app::App;
+use calvin_types::{Config, Fault, Place, Txn};
+use std::alloc::Global;
+use std::collections::VecDeque;
+
+/// How many epochs are merged; one more than the greatest epoch of which anything is done, or 0; and the places at which
+/// requests of merged epochs are due, from the first one on that isn't done.
+#[derive(Drop)]
+pub(crate) struct Progress {
+    pub merged: u128,
+    pub done: u128,
+    pub due: VecDeque<Place>,
+}
+
+impl Progress {
+    /// No epoch is merged.
+    pub fn new(alloc: Global) -> Progress
+        ensures merged { result.merged ≡ 0 }
+        ensures done { result.done ≡ 0 }
+        ensures due { result.due.items ≡ [] }
+    {
+        Progress {
+            merged: 0,
+            done: 0,
+            due: VecDeque::new(alloc),
+        }
+    }
+
+    /// The epoch of the first place that is due, or else how many epochs are merged.
+    pub fn end(&self) -> u128
+        ensures { result ≡ end_of_due self.now.merged self.now.due.items }
+    {
+        match self.due.front() {
+            Some(place) => u128::from(place.epoch),
+            None => self.merged,
+        }
+    }
+
+    /// Whether so many epochs are none, fewer than were opened, or fewer than those of which anything is done.
+    pub fn is_before_all(&self, end: u128, opened: u64) -> bool
+        ensures { MatchBool result ((end ≡ 0) ⊎ ((end < opened) ⊎ (end < self.now.done))) ((0 < end) × (opened ≤ end) × (self.now.done ≤ end)) }
+    {
+        end == 0 || end < u128::from(opened) || end < self.done
+    }
+
+    /// Whether an epoch is the next one, and all requests stand at places of it.
+    pub fn is_next<Args: Copy>(&self, epoch: u64, entries: &[(Place, Txn<Args>)]) -> bool
+        ensures { result ≡ ((epoch == self.now.merged) && list_all (λ e. e.0.epoch == epoch) entries.now) }
+    {
+        u128::from(epoch) == self.merged && are_of_epoch(entries, epoch)
+    }
+
+    /// Whether there is a first place, and it is done.
+    fn is_first_done<A: App>(&self, opened: u64, turns: &Turns<A>) -> bool
+        ensures { result ≡ passes_first (done_at opened turns.now.kept) self.now.due.items }
+    {
+        match self.due.front() {
+            Some(place) => is_done(*place, opened, turns),
+            None => false,
+        }
+    }
+
+    /// Drops the first places as long as they are done.
+    pub fn skip_done<A: App>(&mut self, opened: u64, turns: &Turns<A>)
+        ensures merged { self.new.merged ≡ self.old.merged }
+        ensures done { self.new.done ≡ self.old.done }
+        ensures due { self.new.due.items ≡ from_left (done_at opened turns.now.kept) self.old.due.items }
+    {
+        while self.is_first_done(opened, turns) {
+            let _done = self.due.pop_front();
+        }
+    }
+
+    /// The request at a place is done.
+    pub fn finish<A: App>(&mut self, place: Place, opened: u64, turns: &Turns<A>)
+        ensures merged { self.new.merged ≡ self.old.merged }
+        ensures done { self.new.done ≡ max self.old.done (place.epoch + 1) }
+        ensures due { self.new.due.items ≡ from_left (done_at opened turns.now.kept) self.old.due.items }
+    {
+        self.done = self.done.max(u128::from(place.epoch) + 1);
+        self.skip_done(opened, turns);
+    }
+
+    /// Room for the places of the requests with a key that is stored in a partition.
+    pub fn reserve<Args: Copy>(
+        &mut self,
+        entries: &[(Place, Txn<Args>)],
+        config: &Config,
+        partition: u8,
+    ) -> Result<(), Fault>
+        ensures merged { self.new.merged ≡ self.old.merged }
+        ensures done { self.new.done ≡ self.old.done }
+        ensures due { self.new.due.items ≡ self.old.due.items }
+        ensures ok { OnOk result (deque_len self.new.due + length (local_places (site config.now.partitions partition) entries.now) ≤ deque_capacity self.new.due) }
+        ensures err { IfErr result (λ fault. (fault ≡ Fault.OutOfMemory) × (0 < length (local_places (site config.now.partitions partition) entries.now))) }
+    {
+        let places = count_local(entries, config, partition);
+        if places > 0 {
+            self.due.reserve(places)?;
+        }
+        Ok(())
+    }
+
+    /// An epoch is merged and has these requests: the places of those with a key that is stored in the partition are due.
+    /// There is room for them.
+    pub fn merge<Args: Copy>(
+        &mut self,
+        epoch: u64,
+        entries: &[(Place, Txn<Args>)],
+        config: &Config,
+        partition: u8,
+    )
+        requires { deque_len self.old.due + length (local_places (site config.now.partitions partition) entries.now) ≤ deque_capacity self.old.due }
+        ensures merged { self.new.merged ≡ epoch + 1 }
+        ensures done { self.new.done ≡ self.old.done }
+        ensures due { self.new.due.items ≡ self.old.due.items ++ local_places (site config.now.partitions partition) entries.now }
+    {
+        self.merged = u128::from(epoch) + 1;
+        for i in 0..entries.len() {
+            if entries[i].1.is_participant(config, partition) {
+                self.due.push_back_reserved(entries[i].0);
+            }
+        }
+    }
+}
+
+/// Whether a place is done, or counts as done.
+fn is_done<A: App>(place: Place, opened: u64, turns: &Turns<A>) -> bool
+    ensures { result ≡ done_at opened turns.now.kept place }
+{
+    let opening = Place {
+        epoch: opened,
+        n: 0,
+    };
+    place < opening || turns.is_done(place)
+}
+
+/// How many requests have a key that is stored in a partition.
+fn count_local<Args: Copy>(entries: &[(Place, Txn<Args>)], config: &Config, partition: u8) -> usize
+    ensures { result ≡ length (local_places (site config.now.partitions partition) entries.now) }
+{
+    let mut count = 0;
+    for i in 0..entries.len() {
+        if entries[i].1.is_participant(config, partition) {
+            count += 1;
+        }
+    }
+    count
+}
+
+/// Whether all requests stand at places of an epoch.
+fn are_of_epoch<Args: Copy>(entries: &[(Place, Txn<Args>)], epoch: u64) -> bool
+    ensures { result ≡ list_all (λ e. e.0.epoch == epoch) entries.now }
+{
+    for i in 0..entries.len() {
+        if entries[i].0.epoch != epoch {
+            return false;
+        }
+    }
+    true
+}
