@@ -8,7 +8,7 @@ use Rattle.std.proofs.lemmas.Option.{slice_get-map}
 use Rattle.calvin_types.specs.declared.fault.Fault.{Fault}
 use Rattle.calvin_types.specs.declared.place.Place.{Place}
 use Rattle.calvin_types.specs.declared.txn.Txn.{Txn}
-use Rattle.calvin_types.specs.Deeds.{Deed, Refuses, Does}
+use Rattle.calvin_types.specs.Deeds.{Deed, Refuses, Does, Did}
 use Rattle.calvin_types.specs.Orders.{Order}
 use Rattle.calvin_types.specs.Participants.{Site, site, has_local_key, is_active}
 use Rattle.calvin_types.specs.Places.{place_cmp}
@@ -20,7 +20,6 @@ use Rattle.calvin_app.specs.Rows.{Rows, part}
 use Rattle.calvin_app.specs.declared.answer.Answer.{Answer}
 use Rattle.calvin_order.specs.Merged.{end_of}
 use Rattle.calvin_sched.specs.declared.phase.Phase.TheVariants.{Waiting, Begun, Done}
-use Rattle.calvin_sched.specs.Keeping.{Did}
 use Rattle.calvin_sched.specs.Scheduling.{Scheduling, Turn, turn_at, with_turn, new_turn}
 use Rattle.calvin_sched.specs.Steps.{Serving, admit, admitted, begin, begun_turn, on_reads, finish, served_at}
 use Rattle.calvin_bench.specs.Lives as lives

@@ -14,7 +14,7 @@ use Rattle.calvin_types.specs.declared.fault.Fault.{Fault}
 use Rattle.calvin_types.specs.declared.fault.Fault.TheVariants as fault
 use Rattle.calvin_types.specs.declared.place.Place.{Place}
 use Rattle.calvin_types.specs.declared.txn.Txn.{Txn}
-use Rattle.calvin_types.specs.Deeds.{Deed, Refuses, Does}
+use Rattle.calvin_types.specs.Deeds.{Deed, Refuses, Does, Did}
 use Rattle.calvin_types.specs.Orders.{Order, StandsAt}
 use Rattle.calvin_types.specs.Participants.{site, local_keys, has_local_key}
 use Rattle.calvin_app.specs.declared.job.Job.{Job}
@@ -22,7 +22,6 @@ use Rattle.calvin_app.specs.Meaning.{Meaning}
 use Rattle.calvin_app.specs.Rows.{Rows, view, part}
 use Rattle.calvin_app.specs.Serial.{rows_before, answers_by_place, writes_on}
 use Rattle.calvin_order.specs.Merged.{end_of}
-use Rattle.calvin_sched.specs.Keeping.{Did}
 use Rattle.calvin_sched.specs.Scheduling.{Scheduling, opened, turn_at, local_writes}
 use Rattle.calvin_sched.specs.Standing.{local_places, stands}
 use Rattle.calvin_sched.specs.Steps.{admit, begin, on_reads, job, finish, served_at}

@@ -8,8 +8,8 @@ use Rattle.std.proofs.lemmas.List.{append-nil, take-append-drop}
 use Rattle.calvin_types.specs.declared.fault.Fault.TheVariants.{EpochsSpent}
 use Rattle.calvin_types.specs.declared.limits.TheConstants.{MOST_REQUESTS, MOST_UNDECIDED, MOST_EPOCHS}
 use Rattle.calvin_types.specs.declared.txn.Txn.{Txn}
-use Rattle.calvin_types.specs.Deeds.{Does, Refuses}
-use Rattle.calvin_order.specs.Keeping.{sequencing_of, closed_len, IsSequenced, Did}
+use Rattle.calvin_types.specs.Deeds.{Does, Refuses, Did}
+use Rattle.calvin_order.specs.Keeping.{sequencing_of, closed_len, IsSequenced}
 use Rattle.calvin_order.specs.Merged.{Batch}
 use Rattle.calvin_order.specs.Sequencing.{Sequencing, closed_in, is_decided, is_used, next_epoch, undecided, load, same_attempt, left_over, close, closing}
 use Rattle.calvin_order.proofs.NextEpochs.{next_unused}

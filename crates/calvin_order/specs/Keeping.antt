@@ -7,7 +7,6 @@
 --     IsSequenced s ready      what is true of every sequencer
 --     can_close s      closing needs no memory
 --     can_decide s e      being told that an epoch is decided needs no memory
---     Did grows result deed old new      what a call made of the data, by its deed
 --     deed_of answer next      a test's answer as a deed
 --     IsHistory next undecided s      the next epoch, and how many requests of closed batches are undecided, as they are kept
 use Rattle.std.specs.Prelude.{◌≡◌, ℕ, ◌<◌, ◌≤◌, ◌^◌, Bool, true, ◌&&◌, List, [], nat_eq, nat_le, nat_lt, map, length, take, Option, Some, Result, Ok, Err, IsSome}
@@ -64,13 +63,6 @@ module _ {Args : Type 0} where
 
   abbrev pub can_decide : Sequenced Args → ℕ → Bool
   can_decide s e = nat_lt 0 s.decided_room && nat_le (closed_len s.sequencing.closed e) s.queue_room
-
--- the deed takes effect; or it is its refusal, and nothing changed; or memory ran out, where something grows, and nothing changed
-abbrev pub Did : {S Out : Type 0} → Bool → Result Out Fault → Deed S Out → S → S → Type 0
-Did grows (Ok out) (Refuses fault) old new = ⊥
-Did grows (Ok out) (Does next given) old new = (out ≡ given) × (new ≡ next)
-Did grows (Err refusal) (Refuses fault) old new = (refusal ≡ fault) × (new ≡ old)
-Did grows (Err refusal) (Does next given) old new = (grows ≡ true) × (refusal ≡ OutOfMemory) × (new ≡ old)
 
 abbrev pub deed_of : {S Out : Type 0} → Result Out Fault → S → Deed S Out
 deed_of (Ok out) next = Does next out

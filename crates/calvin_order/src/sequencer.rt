@@ -2,8 +2,8 @@
 ghost use Rattle.std.specs.Prelude.{◌≡◌, ℕ, ◌^◌, ◌<◌, ◌≤◌, true, false, not, nat_eq, length, IfOk, OnOk, OnErr, IsOk, IsOkUnless, MatchOption};
 ghost use Rattle.std.specs.Option.{option_copied};
 ghost use Rattle.calvin_types.specs.declared.limits.TheConstants.{MOST_EPOCHS, MOST_UNDECIDED};
-ghost use Rattle.calvin_types.specs.Deeds.{Does};
-ghost use Rattle.calvin_order.specs.Keeping.{Did, deed_of, can_close, can_decide};
+ghost use Rattle.calvin_types.specs.Deeds.{Does, Did};
+ghost use Rattle.calvin_order.specs.Keeping.{deed_of, can_close, can_decide};
 ghost use Rattle.calvin_order.specs.Sequencing as sequencing;
 
 use crate::history::History;

@@ -9,7 +9,6 @@
 --     Scheduled      a scheduler
 --     scheduling_of opened last kept store      its data
 --     IsScheduler here s kept locking      what is true of every scheduler
---     Did grows result deed old new      what a call made of the data, by its deed
 --     IsNotDue job due fault      why a job that was run isn't taken
 --     Finished m here room job result old new      what a job that was run made of the data
 --     IsReadyHere here s q      an admitted request isn't done and has its locks
@@ -90,13 +89,6 @@ module _ {Args Row : Type 0} where
   abbrev pub IsFirstReadyHere : Site → Scheduling Args Row → Option Place → Option Place → Type 0
   IsFirstReadyHere here s after answer = MatchOption answer ((q : Place) → IsPast after q → ¬ IsReadyHere here s q)
       (λ p. IsPast after p × IsReadyHere here s p × ((q : Place) → IsPast after q → IsReadyHere here s q → ¬ IsBefore q p))
-
--- the deed takes effect; or it is its refusal, and nothing changed; or memory ran out, where something grows, and nothing changed
-abbrev pub Did : {S Out : Type 0} → Bool → Result Out Fault → Deed S Out → S → S → Type 0
-Did grows (Ok out) (Refuses fault) old new = ⊥
-Did grows (Ok out) (Does next given) old new = (out ≡ given) × (new ≡ next)
-Did grows (Err refusal) (Refuses fault) old new = (refusal ≡ fault) × (new ≡ old)
-Did grows (Err refusal) (Does next given) old new = (grows ≡ true) × (refusal ≡ OutOfMemory) × (new ≡ old)
 
 module _ {Args Row : Type 0} where
   -- why a job that was run isn't taken, by the one that is due at its place: there is none; or it is another

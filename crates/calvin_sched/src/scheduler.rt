@@ -2,10 +2,10 @@
 ghost use Rattle.std.specs.Prelude.{◌≡◌, ◌&&◌, ◌≤◌, [], false, true, None, Some, Ok, MatchOption, not, max, length, IfOk, IfErr, OnOk, OnErr, IsOk, IsOkUnless};
 ghost use Rattle.std.specs.List.{list_any};
 ghost use Rattle.std.specs.FinMap as map;
-ghost use Rattle.calvin_types.specs.Deeds.{Refuses};
+ghost use Rattle.calvin_types.specs.Deeds.{Refuses, Did};
 ghost use Rattle.calvin_types.specs.Participants.{site, has_local_key, is_active};
 ghost use Rattle.calvin_order.specs.Merged.{end_of};
-ghost use Rattle.calvin_sched.specs.Keeping.{Did, awaited, awaits_at, IsFirstReadyHere, IsNotDue, Finished};
+ghost use Rattle.calvin_sched.specs.Keeping.{awaited, awaits_at, IsFirstReadyHere, IsNotDue, Finished};
 ghost use Rattle.calvin_sched.specs.Progress.{left, merge};
 ghost use Rattle.calvin_sched.specs.Standing.{stands_at};
 ghost use Rattle.calvin_sched.specs.Scheduling.{Turn as Turning, new_turn, opened, is_past, is_before, turn_at, local_writes};

@@ -1,5 +1,6 @@
 use Rattle.std.proofs.Common.{◌∷◌, ◌++◌, [], Ok, not, length, sym, ap, subst, ◌∙◌}
-use Rattle.calvin_order.specs.Keeping.{sequencing_of, can_close, Did, IsSequenced}
+use Rattle.calvin_types.specs.Deeds.{Did}
+use Rattle.calvin_order.specs.Keeping.{sequencing_of, can_close, IsSequenced}
 use Rattle.calvin_order.specs.Sequencing.{next_epoch, close}
 use Rattle.calvin_order.proofs.Sequencers.{rest_is, closed_sequenced, closed_did}
 use Rattle.calvin_order.proofs.sequencer.Sequencer.close.Goals as goal

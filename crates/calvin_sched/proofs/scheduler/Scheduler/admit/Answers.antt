@@ -3,12 +3,12 @@ use Rattle.std.proofs.Common.{◌≡◌, cond, length, ◌≤◌, Some, Ok, Err,
 use Rattle.std.proofs.lemmas.Bool.{and_parts}
 use Rattle.std.proofs.lemmas.Result.{err_from_is_err_and}
 use Rattle.calvin_types.specs.declared.fault.Fault.TheVariants as fault
-use Rattle.calvin_types.specs.Deeds.{Does, Refuses}
+use Rattle.calvin_types.specs.Deeds.{Does, Refuses, Did}
 use Rattle.calvin_sched.specs.Steps.{admitted}
 use Rattle.std.specs.FinMap.{insert}
 use Rattle.calvin_types.specs.Participants.{site, has_local_key}
 use Rattle.calvin_lock.proofs.LocalLocks.{some_local_key}
-use Rattle.calvin_sched.specs.Keeping.{scheduling_of, turns_of, awaited, Did}
+use Rattle.calvin_sched.specs.Keeping.{scheduling_of, turns_of, awaited}
 use Rattle.calvin_sched.specs.Scheduling.{is_past, is_finished, with_turn, new_turn}
 use Rattle.calvin_order.specs.Merged.{end_of}
 use Rattle.calvin_sched.proofs.Keepers.{put_turn, keeps_passed}

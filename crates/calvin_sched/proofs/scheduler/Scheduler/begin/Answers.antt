@@ -1,7 +1,8 @@
 use Rattle.std.proofs.Common.{rules, cond, ◌≡◌, Bool, true, false, Some, None, refl, sym, ap, subst, ◌∙◌}
 use Rattle.std.proofs.lemmas.Option.{none-some, same_Some}
 use Rattle.calvin_types.specs.Participants.{site, is_active}
-use Rattle.calvin_sched.specs.Keeping.{scheduling_of, IsScheduler, Did}
+use Rattle.calvin_types.specs.Deeds.{Did}
+use Rattle.calvin_sched.specs.Keeping.{scheduling_of, IsScheduler}
 use Rattle.calvin_sched.specs.Scheduling.{turn_at, is_finished, with_turn}
 use Rattle.calvin_sched.specs.Steps.{begun_turn, serving, is_ready}
 use Rattle.calvin_sched.proofs.Begins.{it_begins}

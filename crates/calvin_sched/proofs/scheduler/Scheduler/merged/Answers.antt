@@ -3,9 +3,9 @@ use Rattle.std.proofs.lemmas.Bool.{and_parts, eqb-true}
 use Rattle.std.proofs.lemmas.Result.{err_from_is_err_and}
 use Rattle.std.specs.List.{list_any, list_all}
 use Rattle.calvin_types.specs.declared.fault.Fault.TheVariants as fault
-use Rattle.calvin_types.specs.Deeds.{Does, Refuses}
+use Rattle.calvin_types.specs.Deeds.{Does, Refuses, Did}
 use Rattle.calvin_types.specs.Participants.{site, has_local_key}
-use Rattle.calvin_sched.specs.Keeping.{Did, Scheduled, scheduling_of}
+use Rattle.calvin_sched.specs.Keeping.{Scheduled, scheduling_of}
 use Rattle.calvin_sched.specs.Progress.{left, merge}
 use Rattle.calvin_sched.specs.Standing.{local_places}
 use Rattle.calvin_sched.proofs.DueLists.{some_local}

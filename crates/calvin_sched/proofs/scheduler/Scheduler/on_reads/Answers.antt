@@ -1,11 +1,11 @@
 use Rattle.std.proofs.Common.{rules, Ok, cond, ◌-◌, false, refl, sym, ap, subst, ◌∙◌}
 use Rattle.std.proofs.lemmas.Option.{same_Some}
 use Rattle.calvin_types.specs.Participants.{site}
-use Rattle.calvin_sched.specs.Keeping.{scheduling_of, Did}
+use Rattle.calvin_sched.specs.Keeping.{scheduling_of}
 use Rattle.calvin_sched.specs.Scheduling.{turn_at, awaits, with_turn}
 use Rattle.calvin_sched.specs.Steps.{on_reads_at, with_rows}
 use Rattle.calvin_types.specs.declared.fault.Fault.TheVariants as fault
-use Rattle.calvin_types.specs.Deeds.{Does, Refuses}
+use Rattle.calvin_types.specs.Deeds.{Does, Refuses, Did}
 use Rattle.calvin_sched.proofs.Keepers.{kept_turn}
 use Rattle.calvin_sched.proofs.Progresses.{progress_stepped, left_stepped}
 use Rattle.calvin_sched.proofs.Steps.{after_is, awaited_turn, keeps_fed, has_room}
