@@ -14,7 +14,7 @@ nowhere true q = refl
 nowhere false q = sym (get-empty key_cmp q)
 
 -- of no keys none are left
-without-none : (keys : List Key) → without empty keys ≡ empty
+pub without-none : (keys : List Key) → without empty keys ≡ empty
 without-none keys = same_map key_cmp_total key_cmp_exact _ _ (λ q.
     get-retain_keys empty (λ k. not (has keys k)) q (λ x tied. ap (λ k. not (has keys k)) (sym (key_cmp_exact q x tied)))
     ∙ nowhere (not (has keys q)) q)

@@ -1,1 +1,2 @@
 pub mod SortedPairs
+pub mod StillKept

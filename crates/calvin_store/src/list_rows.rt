@@ -5,7 +5,7 @@ ghost use Rattle.calvin_app.specs.EntryPlaces.{IsAt, IsMissingAt};
 
 use crate::{Rows, Snapshot};
 use calvin_app::Writes;
-use calvin_types::{Fault, Key, Place};
+use calvin_types::{Fault, Key, Place, Sets};
 use std::alloc::{AllocError, Global};
 use std::cmp::Ordering;
 use std::marker::Model;
@@ -49,11 +49,16 @@ impl<Row: Copy> ListRows<Row> {
 }
 
 impl<Row: Copy> Rows<Row> for ListRows<Row> {
+    ghost use Rattle.std.specs.Prelude.{false};
     ghost use Rattle.calvin_app.specs.Stores.{loaded};
 
     ghost store = { λ l. loaded l.rows };
 
     ghost room = { λ l. l.room };
+
+    ghost points = { false };
+
+    ghost cold = { false };
 
     fn empty(alloc: Global) -> ListRows<Row> {
         ListRows {
@@ -106,6 +111,37 @@ impl<Row: Copy> Rows<Row> for ListRows<Row> {
         pairs.reserve(self.room)?;
         self.pairs = pairs;
         Ok(())
+    }
+
+    fn mark(&mut self, _epoch: u64) -> Result<(), Fault> {
+        Err(Fault::NoPoints)
+    }
+
+    fn marked(&self) -> Option<u64> {
+        None
+    }
+
+    fn point(&self) -> Result<Snapshot<Row>, Fault> {
+        Snapshot::new(self.alloc, Vec::new(self.alloc))
+    }
+
+    fn close_point(&mut self) -> Result<(), Fault> {
+        Ok(())
+    }
+
+    fn is_hot(&self, key: &Key) -> bool {
+        self.get(key).is_some()
+    }
+
+    fn warm(&mut self, _sets: &Sets) -> Result<(), Fault> {
+        Ok(())
+    }
+
+    fn cool(&mut self, key: &Key) -> Result<(), Fault> {
+        if !self.is_hot(key) {
+            return Err(Fault::NoRow);
+        }
+        Err(Fault::NoColdTable)
     }
 }
 

@@ -5,7 +5,7 @@ ghost use Rattle.std.specs.FinMap as map;
 use crate::rows::Rows;
 use crate::snapshot::Snapshot;
 use calvin_app::Writes;
-use calvin_types::{Fault, Key, Place};
+use calvin_types::{Fault, Key, Place, Sets};
 use std::alloc::Global;
 use std::collections::HashMap;
 use std::marker::Model;
@@ -47,11 +47,16 @@ impl<Row: Copy> PlainRows<Row> {
 }
 
 impl<Row: Copy> Rows<Row> for PlainRows<Row> {
+    ghost use Rattle.std.specs.Prelude.{false};
     ghost use Rattle.calvin_app.specs.Stores.{loaded};
 
     ghost store = { λ p. loaded p.rows };
 
     ghost room = { λ p. p.room };
+
+    ghost points = { false };
+
+    ghost cold = { false };
 
     fn empty(alloc: Global) -> PlainRows<Row> {
         PlainRows {
@@ -103,5 +108,36 @@ impl<Row: Copy> Rows<Row> for PlainRows<Row> {
         rows.reserve(self.room)?;
         self.rows = rows;
         Ok(())
+    }
+
+    fn mark(&mut self, _epoch: u64) -> Result<(), Fault> {
+        Err(Fault::NoPoints)
+    }
+
+    fn marked(&self) -> Option<u64> {
+        None
+    }
+
+    fn point(&self) -> Result<Snapshot<Row>, Fault> {
+        Snapshot::new(self.alloc, Vec::new(self.alloc))
+    }
+
+    fn close_point(&mut self) -> Result<(), Fault> {
+        Ok(())
+    }
+
+    fn is_hot(&self, key: &Key) -> bool {
+        self.get(key).is_some()
+    }
+
+    fn warm(&mut self, _sets: &Sets) -> Result<(), Fault> {
+        Ok(())
+    }
+
+    fn cool(&mut self, key: &Key) -> Result<(), Fault> {
+        if !self.is_hot(key) {
+            return Err(Fault::NoRow);
+        }
+        Err(Fault::NoColdTable)
     }
 }

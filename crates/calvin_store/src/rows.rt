@@ -1,11 +1,13 @@
 //! What a keeper of rows is.
-ghost use Rattle.std.specs.Prelude.{◌≡◌, ◌-◌, ◌≤◌, ℕ, length, IfOk, IsOk, OnOk, OnErr, IsOkUnless};
+ghost use Rattle.std.specs.Prelude.{◌≡◌, ◌+◌, ◌-◌, ◌≤◌, ◌++◌, ℕ, Bool, false, None, length, IfOk, IsOk, OnOk, OnErr, IsOkUnless};
 ghost use Rattle.std.specs.FinMap as map;
-ghost use Rattle.calvin_app.specs.Stores.{Store, loaded, put_at};
+ghost use Rattle.calvin_types.specs.Deeds.{Did};
+ghost use Rattle.calvin_app.specs.Stores.{Store, loaded, put_at, is_hot, warmed};
+ghost use Rattle.calvin_store.specs.Points.{mark_at, cool_key, rows_of, IsMarked};
 
 use crate::snapshot::Snapshot;
 use calvin_app::Writes;
-use calvin_types::{Fault, Key, Place};
+use calvin_types::{Fault, Key, Place, Sets};
 use std::alloc::Global;
 
 /// Keeps the rows of one partition (Thomson et al. 2012, section 3: any storage that reads and writes single rows can
@@ -22,6 +24,12 @@ pub trait Rows<Row: Copy> {
 
     /// How many rows can be put without growing.
     ghost room: { Self → ℕ };
+
+    /// Whether points of consistency can be opened (section 5).
+    ghost points: { Bool };
+
+    /// Whether there is a cold table (section 4).
+    ghost cold: { Bool };
 
     /// No rows, and no room.
     fn empty(alloc: Global) -> Self
@@ -66,4 +74,46 @@ pub trait Rows<Row: Copy> {
         ensures err { OnErr result (store self.new ≡ store self.old) }
         ensures room { room self.old ≤ room self.new }
         ensures only { IsOkUnless result Fault.OutOfMemory };
+
+    /// Opens a point at the end of an epoch: from now on the rows that requests up to it leave are kept beside the present
+    /// ones. Refused with `PointOpen` where one is open, and with `NoPoints` where the keeper has none. Takes no memory.
+    fn mark(&mut self, epoch: u64) -> Result<(), Fault>
+        ensures did { Did false result (mark_at points (record { epoch = epoch + 1; n = 0 }) (store self.old)) (store self.old) (store self.new) }
+        ensures room { room self.old ≤ room self.new };
+
+    /// The epoch at whose end the open point is, if one is open.
+    fn marked(&self) -> Option<u64>
+        ensures { IsMarked (store self.now).point result };
+
+    /// The rows of the open point; no rows where none is open. Refused with `OutOfMemory` where a growth was refused.
+    fn point(&self) -> Result<Snapshot<Row>, Fault>
+        ensures ok { IfOk result (λ s. s ≡ rows_of (store self.now).point) }
+        ensures only { IsOkUnless result Fault.OutOfMemory };
+
+    /// Closes the open point; the present rows stay. Refused with `OutOfMemory` where a growth was refused.
+    fn close_point(&mut self) -> Result<(), Fault>
+        ensures ok { OnOk result (store self.new ≡ record (store self.old) { point = None }) }
+        ensures err { OnErr result (store self.new ≡ store self.old) }
+        ensures room { room self.old ≤ room self.new }
+        ensures only { IsOkUnless result Fault.OutOfMemory };
+
+    /// Whether a key has a row that isn't cold.
+    fn is_hot(&self, key: &Key) -> bool
+        ensures { result ≡ is_hot (store self.now) key.now };
+
+    /// The rows of the keys of these sets come back from the cold table, where they are there. Refused with `OutOfMemory`
+    /// where there is a cold table and a growth was refused.
+    fn warm(&mut self, sets: &Sets) -> Result<(), Fault>
+        ensures ok { OnOk result (store self.new ≡ warmed (sets.now.reads ++ sets.now.writes) (store self.old)) }
+        ensures err { OnErr result (store self.new ≡ store self.old) }
+        ensures room { room self.old ≤ room self.new }
+        ensures only { IsOkUnless result Fault.OutOfMemory }
+        ensures succeeds { cold ≡ false → IsOk result };
+
+    /// The row of a key goes to the cold table. Refused with `PointOpen` where a point is open, with `NoRow` where the key has
+    /// no row that isn't cold, and with `NoColdTable` where there is no such table; else with `OutOfMemory` where a growth
+    /// was refused.
+    fn cool(&mut self, key: &Key) -> Result<(), Fault>
+        ensures did { Did cold result (cool_key cold key.now (store self.old)) (store self.old) (store self.new) }
+        ensures room { room self.old ≤ room self.new };
 }
