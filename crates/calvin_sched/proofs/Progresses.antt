@@ -28,9 +28,9 @@ module _ {Args Row : Type 0} where
   done_by opened turns q = is_before q (end_of opened) || turn_done (get turns q)
 
   -- nothing is admitted
-  pub at_first : (opened : ℕ) (turns : FinMap {K = Place} place_cmp (Turn Args Row)) → turns ≡ empty → (merged done : ℕ) → merged ≡ 0 → done ≡ 0 → (due : List Place) → due ≡ [] → IsProgress opened None turns merged done due
-  at_first opened turns none merged done no_epoch no_bound due nothing = subst (IsProgress opened None turns merged done) (sym nothing) (subst (λ t. IsProgress opened None t merged done []) (sym none) (record {
-    counted = omega (arith, no_epoch);
+  pub at_first : (opened : ℕ) (turns : FinMap {K = Place} place_cmp (Turn Args Row)) → turns ≡ empty → (merged done : ℕ) → merged ≤ 2 ^ 64 → done ≡ 0 → (due : List Place) → due ≡ [] → IsProgress opened None turns merged done due
+  at_first opened turns none merged done few no_bound due nothing = subst (IsProgress opened None turns merged done) (sym nothing) (subst (λ t. IsProgress opened None t merged done []) (sym none) (record {
+    counted = few;
     upto = λ q x there. absurd (none-some x (sym (get-empty place_cmp q) ∙ there));
     below = λ q x there. absurd (none-some x (sym (get-empty place_cmp q) ∙ there));
     reached = λ some. absurd (omega (arith, some, no_bound));

@@ -2,6 +2,7 @@
 use Rattle.std.proofs.Common.{◌≡◌, ℕ, zero, suc, ◌+◌, ◌≤◌, ◌<◌, Bool, true, false, cond, not, ◌&&◌, ◌||◌, ◌⊎◌, inl, inr, List, [], ◌∷◌, Option, Some, None, refl, sym, ap, subst, ◌∙◌, arith}
 use Rattle.std.proofs.lemmas.Bool.{false≢true, and_parts, or_cases, or_left, or_right, le-leb, leb-true, ltb-true, ltb-false}
 use Rattle.std.specs.Prelude.{◌==◌, nat_le, nat_lt}
+use Rattle.std.specs.Cmp.{both_ways}
 use Rattle.std.specs.List.{list_all}
 use Rattle.std.specs.declared.cmp.Ordering.TheVariants.{Less, Equal, Greater}
 use Rattle.std.specs.Ordering.{is_lt, ordering_then}
@@ -11,7 +12,7 @@ use Rattle.calvin_types.specs.Places.{place_cmp}
 use Rattle.calvin_app.specs.Stores.{Store}
 use Rattle.calvin_order.specs.Merged.{end_of}
 use Rattle.calvin_sched.specs.Scheduling.{Turn, Scheduling, is_before, is_finished, is_done, turn_done}
-use Rattle.calvin_sched.specs.Standing.{stands, stands_at, none_done_from, greatest_below}
+use Rattle.calvin_sched.specs.Standing.{stands, stands_at, all_done, none_done_from, greatest_below}
 use Rattle.calvin_sched.specs.Keeping.{Kept, turns_of, scheduling_of}
 use Rattle.calvin_sched.specs.Progress.{left, passes_first, end_of_due, Climbs, IsProgress}
 use Rattle.calvin_sched.proofs.DueLists.{climbs_high}
@@ -131,6 +132,30 @@ module _ {Args Row : Type 0} (opened : ℕ) (last : Option Place) (kept : FinMap
       (both_true (nat_le n merged) (nat_le opened n) (le-leb n merged (omega (arith, upto, end_merged))) (le-leb opened n le))
       (none_later n upto))
       (none_kept (turns_of kept) (λ q. nat_le n q.epoch && is_done s q) (λ q x there. undone_from n le most q x there))
+
+  -- whether it stands at the end of so many epochs, whether these are done, and whether nothing later is
+  pub stands_is : (n : ℕ) → stands s merged (left s due) n ≡ (nat_le n (end_of_due merged due) && (nat_le opened n && nat_le done n))
+  stands_is n = both_ways _ _
+      (λ h. let met = stands_of n h in both_true (nat_le n (end_of_due merged due)) (nat_le opened n && nat_le done n) (le-leb n (end_of_due merged due) met.2) (both_true (nat_le opened n) (nat_le done n) (le-leb opened n met.0) (le-leb done n met.1)))
+      (λ h.
+      let p = and_parts (nat_le n (end_of_due merged due)) (nat_le opened n && nat_le done n) h in
+      let q = and_parts (nat_le opened n) (nat_le done n) p.1 in
+      stands_there n (leb-true opened n q.0) (leb-true done n q.1) (leb-true n (end_of_due merged due) p.0))
+
+  pub all_done_is : (n : ℕ) → all_done s merged (left s due) n ≡ nat_le n (end_of_due merged due)
+  all_done_is n = both_ways _ _
+      (λ h. let p = and_parts (nat_le n merged) (list_all (tested n) (left s due)) h in le-leb n (end_of_due merged due) (up_to_first n due is.first p.1 (leb-true n merged p.0)))
+      (λ h.
+      let upto = leb-true n (end_of_due merged due) h in
+      both_true (nat_le n merged) (list_all (tested n) (left s due)) (le-leb n merged (omega (arith, upto, end_merged))) (none_later n upto))
+
+  pub none_later_is : (n : ℕ) → (none_done_from s n && nat_le opened n) ≡ (nat_le opened n && nat_le done n)
+  none_later_is n = both_ways _ _
+      (λ h. let p = and_parts (none_done_from s n) (nat_le opened n) h in both_true (nat_le opened n) (nat_le done n) p.1 (le-leb done n (bound_of n p.0)))
+      (λ h.
+      let p = and_parts (nat_le opened n) (nat_le done n) h in
+      both_true (none_done_from s n) (nat_le opened n)
+      (none_kept (turns_of kept) (λ q. nat_le n q.epoch && is_done s q) (λ q x there. undone_from n (leb-true opened n p.0) (leb-true done n p.1) q x there)) p.0)
 
   -- the answer where it stands nowhere, and where it stands
   pub stands_nowhere : (end_of_due merged due ≡ 0) ⊎ ((end_of_due merged due < opened) ⊎ (end_of_due merged due < done)) → stands_at s merged (left s due) ≡ None

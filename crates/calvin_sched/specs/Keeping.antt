@@ -11,11 +11,14 @@
 --     IsScheduler here s kept locking      what is true of every scheduler
 --     IsNotDue job due fault      why a job that was run isn't taken
 --     Finished m here room job result old new      what a job that was run made of the data
+--     takes_effect deed      it is no refusal
+--     is_point_at n point      the open point is at the end of n epochs
+--     rows_at n store      the rows of that point, or else the present ones
 --     IsReadyHere here s q      an admitted request isn't done and has its locks
 --     IsFirstReadyHere here s after answer      the least such place past another
-use Rattle.std.specs.Prelude.{◌≡◌, ℕ, ◌<◌, ◌≤◌, ◌⊎◌, Bool, true, false, List, length, map, Option, Some, None, Result, Ok, Err, MatchOption}
+use Rattle.std.specs.Prelude.{◌≡◌, ℕ, ◌<◌, ◌≤◌, ◌⊎◌, Bool, true, false, List, length, map, if◌then◌else◌, Option, Some, None, Result, Ok, Err, MatchOption}
 use Rattle.std.specs.List.{filter, range_with_len}
-use Rattle.std.specs.Ordering.{nat_cmp}
+use Rattle.std.specs.Ordering.{nat_cmp, eq_by_cmp}
 use Rattle.std.specs.FinMap.{FinMap, entries, from_entries, get}
 use Rattle.calvin_types.specs.declared.fault.Fault.{Fault}
 use Rattle.calvin_types.specs.declared.fault.Fault.TheVariants.{OutOfMemory, NotCollected, StaleJob}
@@ -28,8 +31,9 @@ use Rattle.calvin_app.specs.declared.job.Job.{Job}
 use Rattle.calvin_app.specs.Meaning.{Meaning}
 use Rattle.calvin_app.specs.Rows.{Rows}
 use Rattle.calvin_app.specs.Serial.{answer_on, writes_on}
-use Rattle.calvin_app.specs.Stores.{Store}
+use Rattle.calvin_app.specs.Stores.{Store, Point}
 use Rattle.calvin_order.specs.Merged.{end_of}
+use Rattle.calvin_store.specs.Points.{rows_of}
 use Rattle.calvin_lock.specs.Local.{IsLockedAs}
 use Rattle.calvin_lock.specs.Locking.{Locking}
 use Rattle.calvin_lock.specs.Ready.{IsReady, IsPast}
@@ -102,3 +106,18 @@ module _ {Args Row : Type 0} where
   Finished m here room j (Err fault) old new =
       (new ≡ old) × (IsNotDue j (job here j.place old) fault
       ⊎ ((fault ≡ OutOfMemory) × (job here j.place old ≡ Ok j) × (room < length (local_writes here (writes_on m j.txn j.view)))))
+
+-- a deed is no refusal
+abbrev pub takes_effect : {S Out : Type 0} → Deed S Out → Bool
+takes_effect (Refuses f) = false
+takes_effect (Does s out) = true
+
+module _ {Row : Type 0} where
+  -- the open point is at the end of the first n epochs
+  abbrev pub is_point_at : ℕ → Option (Point Row) → Bool
+  is_point_at n None = false
+  is_point_at n (Some p) = eq_by_cmp place_cmp p.at (end_of n)
+
+  -- the rows of that point, or else the present ones
+  abbrev pub rows_at : ℕ → Store Row → Rows Row
+  rows_at n store = if is_point_at n store.point then rows_of store.point else store.map

@@ -13,9 +13,10 @@ use Rattle.calvin_types.specs.Deeds.{Deed, Refuses, Does}
 use Rattle.calvin_types.specs.Orders.{Order}
 use Rattle.calvin_types.specs.Participants.{Site, has_local_key}
 use Rattle.calvin_app.specs.Rows.{Rows}
-use Rattle.calvin_app.specs.Stores.{Point, marked, closed_upto, is_hot, warmed, cooled}
+use Rattle.calvin_app.specs.Stores.{Store, Point, closed_upto, warmed}
 use Rattle.calvin_types.specs.Places.{place_cmp}
 use Rattle.calvin_order.specs.Merged.{end_of}
+use Rattle.calvin_store.specs.Points.{mark_at, cool_key}
 use Rattle.calvin_sched.specs.declared.phase.Phase.{Phase}
 use Rattle.calvin_sched.specs.declared.phase.Phase.TheVariants.{Waiting, Begun, Done}
 use Rattle.calvin_sched.specs.Scheduling.{Turn, Scheduling, turn_at, with_store, is_done}
@@ -80,26 +81,20 @@ module _ {Args Row : Type 0} where
 
   -- ---- marks
 
-  abbrev pub mark_where : Bool → ℕ → Scheduling Args Row → Option (Point Row) → Deed (Scheduling Args Row) (Unit {0})
-  mark_where points n s (Some p) = Refuses fault.PointOpen
-  mark_where points n s None = if points then Does (with_store s (marked (end_of n) s.store)) tt else Refuses fault.NoPoints
+  -- what becomes of the store
+  abbrev pub by_store : Scheduling Args Row → Deed (Store Row) (Unit {0}) → Deed (Scheduling Args Row) (Unit {0})
+  by_store s (Refuses f) = Refuses f
+  by_store s (Does store out) = Does (with_store s store) out
 
   -- a point is opened at the end of the first n epochs, as long as nothing later is done and a loaded snapshot has no more epochs
   abbrev pub mark : Bool → ℕ → Scheduling Args Row → Deed (Scheduling Args Row) (Unit {0})
-  mark points n s = if none_done_from s n && nat_le s.opened_from.epoch n then mark_where points n s s.store.point else Refuses fault.PointTooLate
+  mark points n s = if none_done_from s n && nat_le s.opened_from.epoch n then by_store s (mark_at points (end_of n) s.store) else Refuses fault.PointTooLate
 
   -- ---- cold rows
 
-  abbrev pub cool_where : Bool → Key → Scheduling Args Row → Option (Point Row) → Deed (Scheduling Args Row) (Unit {0})
-  cool_where cold k s (Some p) = Refuses fault.PointOpen
-  cool_where cold k s None =
-      if is_hot s.store k
-      then (if cold then Does (with_store s (cooled k s.store)) tt else Refuses fault.NoColdTable)
-      else Refuses fault.NoRow
-
   -- the row of a key goes to the cold table
   abbrev pub cool : Bool → Key → Scheduling Args Row → Deed (Scheduling Args Row) (Unit {0})
-  cool cold k s = cool_where cold k s s.store.point
+  cool cold k s = by_store s (cool_key cold k s.store)
 
   -- the rows of these keys come back from the cold table
   abbrev pub warm : List Key → Scheduling Args Row → Scheduling Args Row

@@ -1,7 +1,7 @@
 //! One partition's scheduler: requests are admitted in the global order, lock what they use, read, exchange what they read,
 //! run and write (Thomson et al. 2012, section 3.2). In code a request is admitted, begins, takes the rows of other
 //! partitions, is told as a job once all have come, and is finished with what was computed of it; it is
-//! told which epochs are merged, and tells at the end of which it stands.
+//! told which epochs are merged, and tells at the end of which it stands. Its rows are taken as a snapshot, and it is opened on one.
 #![tactic(auto)]
 
 mod came;
@@ -12,6 +12,7 @@ mod progress;
 mod reading;
 mod scheduler;
 mod serving;
+mod snapshots;
 mod turn;
 mod turns;
 

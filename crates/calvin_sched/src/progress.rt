@@ -1,9 +1,11 @@
 //! How far the epochs are merged and done.
-ghost use Rattle.std.specs.Prelude.{◌≡◌, ◌⊎◌, ◌&&◌, MatchBool, ◌++◌, ◌+◌, ◌≤◌, ◌<◌, ◌==◌, [], max, length, OnOk, IfErr};
+ghost use Rattle.std.specs.Prelude.{◌≡◌, ◌⊎◌, ◌&&◌, MatchBool, ◌++◌, ◌+◌, ◌≤◌, ◌<◌, ◌==◌, nat_le, [], max, length, OnOk, IfErr};
 ghost use Rattle.std.specs.List.{list_all};
 ghost use Rattle.std.specs.VecDeque.{deque_len, deque_capacity};
 ghost use Rattle.calvin_types.specs.Participants.{site};
 ghost use Rattle.calvin_sched.specs.Standing.{local_places};
+ghost use Rattle.calvin_order.specs.Merged.{end_of};
+ghost use Rattle.calvin_sched.specs.Scheduling.{is_before};
 ghost use Rattle.calvin_sched.specs.Progress.{from_left, end_of_due, done_at, passes_first};
 
 use crate::turns::Turns;
@@ -22,14 +24,14 @@ pub(crate) struct Progress {
 }
 
 impl Progress {
-    /// No epoch is merged.
-    pub fn new(alloc: Global) -> Progress
-        ensures merged { result.merged ≡ 0 }
+    /// So many epochs are merged, and nothing is due.
+    pub fn from_epochs(alloc: Global, epochs: u128) -> Progress
+        ensures merged { result.merged ≡ epochs }
         ensures done { result.done ≡ 0 }
         ensures due { result.due.items ≡ [] }
     {
         Progress {
-            merged: 0,
+            merged: epochs,
             done: 0,
             due: VecDeque::new(alloc),
         }
@@ -46,10 +48,24 @@ impl Progress {
     }
 
     /// Whether so many epochs are none, fewer than were opened, or fewer than those of which anything is done.
-    pub fn is_before_all(&self, end: u128, opened: u64) -> bool
+    pub fn is_no_standing(&self, end: u128, opened: u128) -> bool
         ensures { MatchBool result ((end ≡ 0) ⊎ ((end < opened) ⊎ (end < self.now.done))) ((0 < end) × (opened ≤ end) × (self.now.done ≤ end)) }
     {
-        end == 0 || end < u128::from(opened) || end < self.done
+        end == 0 || end < opened || end < self.done
+    }
+
+    /// Whether so many epochs are merged, and what they have to do is done.
+    pub fn is_done_up_to(&self, epochs: u128) -> bool
+        ensures { result ≡ nat_le epochs (end_of_due self.now.merged self.now.due.items) }
+    {
+        epochs <= self.end()
+    }
+
+    /// Whether so many epochs are no fewer than were opened, and nothing past them is done.
+    pub fn is_done_no_further(&self, epochs: u128, opened: u128) -> bool
+        ensures { result ≡ (nat_le opened epochs && nat_le self.now.done epochs) }
+    {
+        opened <= epochs && self.done <= epochs
     }
 
     /// Whether an epoch is the next one, and all requests stand at places of it.
@@ -60,7 +76,7 @@ impl Progress {
     }
 
     /// Whether there is a first place, and it is done.
-    fn is_first_done<A: App>(&self, opened: u64, turns: &Turns<A>) -> bool
+    fn is_first_done<A: App>(&self, opened: u128, turns: &Turns<A>) -> bool
         ensures { result ≡ passes_first (done_at opened turns.now.kept) self.now.due.items }
     {
         match self.due.front() {
@@ -70,7 +86,7 @@ impl Progress {
     }
 
     /// Drops the first places as long as they are done.
-    pub fn skip_done<A: App>(&mut self, opened: u64, turns: &Turns<A>)
+    pub fn skip_done<A: App>(&mut self, opened: u128, turns: &Turns<A>)
         ensures merged { self.new.merged ≡ self.old.merged }
         ensures done { self.new.done ≡ self.old.done }
         ensures due { self.new.due.items ≡ from_left (done_at opened turns.now.kept) self.old.due.items }
@@ -81,7 +97,7 @@ impl Progress {
     }
 
     /// The request at a place is done.
-    pub fn finish<A: App>(&mut self, place: Place, opened: u64, turns: &Turns<A>)
+    pub fn finish<A: App>(&mut self, place: Place, opened: u128, turns: &Turns<A>)
         ensures merged { self.new.merged ≡ self.old.merged }
         ensures done { self.new.done ≡ max self.old.done (place.epoch + 1) }
         ensures due { self.new.due.items ≡ from_left (done_at opened turns.now.kept) self.old.due.items }
@@ -134,14 +150,17 @@ impl Progress {
 }
 
 /// Whether a place is done, or counts as done.
-fn is_done<A: App>(place: Place, opened: u64, turns: &Turns<A>) -> bool
+fn is_done<A: App>(place: Place, opened: u128, turns: &Turns<A>) -> bool
     ensures { result ≡ done_at opened turns.now.kept place }
 {
-    let opening = Place {
-        epoch: opened,
-        n: 0,
-    };
-    place < opening || turns.is_done(place)
+    is_of_first(place, opened) || turns.is_done(place)
+}
+
+/// Whether a place is of one of the first epochs.
+pub(crate) fn is_of_first(place: Place, epochs: u128) -> bool
+    ensures { result ≡ is_before place (end_of epochs) }
+{
+    u128::from(place.epoch) < epochs
 }
 
 /// How many requests have a key that is stored in a partition.

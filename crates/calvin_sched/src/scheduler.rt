@@ -1,5 +1,5 @@
 //! The scheduler of one partition.
-ghost use Rattle.std.specs.Prelude.{◌≡◌, ◌&&◌, ◌≤◌, [], false, true, None, Some, Ok, MatchOption, not, max, length, IfOk, IfErr, OnOk, OnErr, IsOk, IsOkUnless};
+ghost use Rattle.std.specs.Prelude.{◌≡◌, ◌&&◌, ◌+◌, ◌^◌, ◌≤◌, [], false, true, None, Some, Ok, MatchOption, not, max, length, IfOk, IfErr, OnOk, OnErr, IsOk, IsOkUnless};
 ghost use Rattle.std.specs.List.{list_any};
 ghost use Rattle.std.specs.FinMap as map;
 ghost use Rattle.calvin_types.specs.Deeds.{Refuses, Did};
@@ -14,13 +14,13 @@ ghost use Rattle.calvin_sched.specs.declared.phase.Phase.TheVariants.{Waiting};
 
 use crate::finishing::{is_same_job, local_part};
 use crate::phase::Phase;
-use crate::progress::Progress;
+use crate::progress::{Progress, is_of_first};
 use crate::serving::Serving;
 use crate::turn::Turn;
 use crate::turns::Turns;
 use calvin_app::{Answer, App, Computed, Job, View};
 use calvin_lock::Locks;
-use calvin_store::Rows;
+use calvin_store::{Rows, Snapshot};
 use calvin_types::{Config, Fault, Place, Txn};
 use std::alloc::Global;
 use std::marker::Model;
@@ -33,7 +33,7 @@ pub struct Scheduler<A: App, L: Locks + Drop, S: Rows<A::Row> + Drop> {
     pub(crate) alloc: Global,
     pub(crate) config: Config,
     pub(crate) partition: u8,
-    pub(crate) opened: u64,
+    pub(crate) opened: u128,
     pub(crate) last: Option<Place>,
     pub(crate) turns: Turns<A>,
     pub(crate) locks: L,
@@ -69,16 +69,47 @@ impl<A: App, L: Locks + Drop, S: Rows<A::Row> + Drop> Scheduler<A, L, S> {
     pub fn new(alloc: Global, config: &Config, partition: u8) -> Scheduler<A, L, S>
         ensures { result ≡ record { here = site config.now.partitions partition; scheduling = opened (end_of 0) map.empty; room = 0; merged = 0; due = [] } }
     {
+        Scheduler::open(alloc, config, partition, S::empty(alloc), 0)
+    }
+
+    /// A scheduler on the rows of a snapshot at the end of an epoch: the epochs up to it are merged and done, and no request
+    /// is admitted. Refused with `OutOfMemory` where a growth was refused.
+    pub fn from_snapshot(
+        alloc: Global,
+        config: &Config,
+        partition: u8,
+        snapshot: &Snapshot<A::Row>,
+        epoch: u64,
+    ) -> Result<Scheduler<A, L, S>, Fault>
+        ensures ok { IfOk result (λ s. s ≡ record { here = site config.now.partitions partition; scheduling = opened (end_of (epoch + 1)) snapshot.now; room = s.room; merged = epoch + 1; due = [] }) }
+        ensures only { IsOkUnless result Fault.OutOfMemory }
+    {
+        let mut rows = S::empty(alloc);
+        rows.load(snapshot)?;
+        Ok(Scheduler::open(alloc, config, partition, rows, u128::from(epoch) + 1))
+    }
+
+    /// A scheduler on rows at the end of so many epochs, which are merged and done.
+    fn open(
+        alloc: Global,
+        config: &Config,
+        partition: u8,
+        rows: S,
+        epochs: u128,
+    ) -> Scheduler<A, L, S>
+        requires { epochs ≤ 2 ^ 64 }
+        ensures { result ≡ record { here = site config.now.partitions partition; scheduling = record (opened (end_of epochs) map.empty) { store = S.store rows }; room = S.room rows; merged = epochs; due = [] } }
+    {
         Scheduler {
             alloc,
             config: *config,
             partition,
-            opened: 0,
+            opened: epochs,
             last: None,
             turns: Turns::new(alloc),
             locks: L::empty(alloc),
-            rows: S::empty(alloc),
-            progress: Progress::new(alloc),
+            rows,
+            progress: Progress::from_epochs(alloc, epochs),
         }
     }
 
@@ -86,15 +117,11 @@ impl<A: App, L: Locks + Drop, S: Rows<A::Row> + Drop> Scheduler<A, L, S> {
     fn is_next(&self, place: Place) -> bool
         ensures { result ≡ (is_past self.now.scheduling.last place && not (is_before place self.now.scheduling.opened_from)) }
     {
-        let opening = Place {
-            epoch: self.opened,
-            n: 0,
-        };
         let is_past = match self.last {
             Some(last) => last < place,
             None => true,
         };
-        is_past && !(place < opening)
+        is_past && !is_of_first(place, self.opened)
     }
 
     /// The request that is admitted at a place.
@@ -319,7 +346,7 @@ impl<A: App, L: Locks + Drop, S: Rows<A::Row> + Drop> Scheduler<A, L, S> {
         ensures { result ≡ stands_at self.now.scheduling self.now.merged self.now.due }
     {
         let end = self.progress.end();
-        if self.progress.is_before_all(end, self.opened) {
+        if self.progress.is_no_standing(end, self.opened) {
             return None;
         }
         Some((end - 1) as u64)

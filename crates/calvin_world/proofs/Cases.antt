@@ -39,7 +39,8 @@ use Rattle.calvin_sched.specs.declared.phase.Phase.{Phase}
 use Rattle.calvin_sched.specs.declared.phase.Phase.TheVariants.{Waiting, Begun, Done}
 use Rattle.calvin_sched.specs.Scheduling.{Turn, Scheduling, with_store, reads_here, other_active, turn_at}
 use Rattle.calvin_sched.specs.Steps as sched
-use Rattle.calvin_sched.specs.Standing.{local_places, none_done_from, all_done, closed_at, stands, take_map, take_from, take_rows, mark_where, mark, cool_where, warm}
+use Rattle.calvin_store.specs.Points.{mark_by, mark_at, cool_by}
+use Rattle.calvin_sched.specs.Standing.{local_places, none_done_from, all_done, closed_at, stands, take_map, take_from, take_rows, by_store, mark, warm}
 use Rattle.calvin_node.specs.declared.packet.Content.{Content}
 use Rattle.calvin_node.specs.declared.packet.Packet.{Packet}
 use Rattle.calvin_node.specs.declared.packet.Address.TheVariants.{AtNode, AtClient}
@@ -190,15 +191,15 @@ marks_at_end : {Args Row : Type 0} (points : Bool) (x : NodeState Args Row) (n :
 marks_at_end {Args} {Row} points x n s out e = by_test (none_done_from x.scheduler n && nat_le x.scheduler.opened_from.epoch n) refl e
   where
     by_kind : none_done_from x.scheduler n ≡ true → nat_le x.scheduler.opened_from.epoch n ≡ true → x.scheduler.store.point ≡ None
-        → (b : Bool) → cond b (Does (with_store x.scheduler (marked (end_of n) x.scheduler.store)) (tt {0})) (Refuses fault.NoPoints) ≡ Does s out → MarksAtEnd x n s
+        → (b : Bool) → by_store x.scheduler (cond b (Does (marked (end_of n) x.scheduler.store) (tt {0})) (Refuses fault.NoPoints)) ≡ Does s out → MarksAtEnd x n s
     by_kind later older none true e = record { none_open = none; none_later = later; not_older = older; now = (does_is e).0 }
     by_kind later older none false e = absurd (refuses_not e)
 
-    by_point : none_done_from x.scheduler n ≡ true → nat_le x.scheduler.opened_from.epoch n ≡ true → (o : Option (Point Row)) → x.scheduler.store.point ≡ o → mark_where points n x.scheduler o ≡ Does s out → MarksAtEnd x n s
+    by_point : none_done_from x.scheduler n ≡ true → nat_le x.scheduler.opened_from.epoch n ≡ true → (o : Option (Point Row)) → x.scheduler.store.point ≡ o → by_store x.scheduler (mark_by points (end_of n) x.scheduler.store o) ≡ Does s out → MarksAtEnd x n s
     by_point later older (Some p) is e = absurd (refuses_not e)
     by_point later older None is e = by_kind later older is points e
 
-    by_test : (b : Bool) → (none_done_from x.scheduler n && nat_le x.scheduler.opened_from.epoch n) ≡ b → cond b (mark_where points n x.scheduler x.scheduler.store.point) (Refuses fault.PointTooLate) ≡ Does s out → MarksAtEnd x n s
+    by_test : (b : Bool) → (none_done_from x.scheduler n && nat_le x.scheduler.opened_from.epoch n) ≡ b → cond b (by_store x.scheduler (mark_at points (end_of n) x.scheduler.store)) (Refuses fault.PointTooLate) ≡ Does s out → MarksAtEnd x n s
     by_test true h e = let both = and_parts (none_done_from x.scheduler n) (nat_le x.scheduler.opened_from.epoch n) h in by_point both.0 both.1 x.scheduler.store.point refl e
     by_test false h e = absurd (refuses_not e)
 
@@ -312,15 +313,15 @@ module _ {Args Row Reply : Type 0} (config : Config) (x : NodeState Args Row) (n
     pub cool_does : (k : Key) → node.cool_row config k x ≡ Does next sent → Acts m config (Cool k) x next sent
     cool_does k e = by_point x.scheduler.store.point e
       where
-        by_table : (b : Bool) → handling.by_scheduler x (cond b (Does (with_store x.scheduler (cooled k x.scheduler.store)) (tt {0})) (Refuses fault.NoColdTable)) ≡ Does next sent → Acts m config (Cool k) x next sent
+        by_table : (b : Bool) → handling.by_scheduler x (by_store x.scheduler (cond b (Does (cooled k x.scheduler.store) (tt {0})) (Refuses fault.NoColdTable))) ≡ Does next sent → Acts m config (Cool k) x next sent
         by_table true e = does_is e
         by_table false e = absurd (refuses_not e)
 
-        by_hot : (b : Bool) → handling.by_scheduler x (cond b (cond config.cold (Does (with_store x.scheduler (cooled k x.scheduler.store)) (tt {0})) (Refuses fault.NoColdTable)) (Refuses fault.NoRow)) ≡ Does next sent → Acts m config (Cool k) x next sent
+        by_hot : (b : Bool) → handling.by_scheduler x (by_store x.scheduler (cond b (cond config.cold (Does (cooled k x.scheduler.store) (tt {0})) (Refuses fault.NoColdTable)) (Refuses fault.NoRow))) ≡ Does next sent → Acts m config (Cool k) x next sent
         by_hot true e = by_table config.cold e
         by_hot false e = absurd (refuses_not e)
 
-        by_point : (o : Option (Point Row)) → handling.by_scheduler x (cool_where config.cold k x.scheduler o) ≡ Does next sent → Acts m config (Cool k) x next sent
+        by_point : (o : Option (Point Row)) → handling.by_scheduler x (by_store x.scheduler (cool_by config.cold k x.scheduler.store o)) ≡ Does next sent → Acts m config (Cool k) x next sent
         by_point (Some p) e = absurd (refuses_not e)
         by_point None e = by_hot (is_hot x.scheduler.store k) e
 

@@ -19,7 +19,7 @@ use Rattle.calvin_app.specs.Stores.{Store, loaded, marked, cooled}
 use Rattle.calvin_order.specs.Merged.{end_of}
 use Rattle.calvin_sched.specs.declared.phase.Phase.TheVariants as phase
 use Rattle.calvin_sched.specs.Scheduling.{with_store, new_turn, turn_at, turn_done, is_before, is_done, local_writes}
-use Rattle.calvin_sched.specs.Standing.{closed_at, none_done_from}
+use Rattle.calvin_sched.specs.Standing.{by_store, closed_at, none_done_from}
 use Rattle.calvin_sched.specs.Steps as sched
 use Rattle.calvin_sched.proofs.Readiness.{none_kept}
 use Rattle.calvin_node.specs.NodeStates.{restarted}
@@ -129,7 +129,7 @@ opens_no_second : ◌≡◌ {A = KvDeed} (node.mark_end alone 1 v_1) (Refuses fa
 opens_no_second = ap (λ (b : Bool). by_scheduler {Reply = KvReply} v_1 (cond (b && true) (Refuses fault.PointOpen) (Refuses fault.PointTooLate))) (none_from 2)
 
 no_row : ◌≡◌ {A = KvDeed} (node.cool_row alone put_key v_0) (Refuses fault.NoRow)
-no_row = ap (λ (o : Option ℕ). by_scheduler {Reply = KvReply} v_0 (cond (is_some o && not (is_some (get v_0.scheduler.store.cold put_key))) (Does (with_store v_0.scheduler (cooled put_key v_0.scheduler.store)) tt) (Refuses fault.NoRow))) (get-empty key_cmp put_key)
+no_row = ap (λ (o : Option ℕ). by_scheduler {Reply = KvReply} v_0 (by_store v_0.scheduler (cond (is_some o && not (is_some (get v_0.scheduler.store.cold put_key))) (Does (cooled put_key v_0.scheduler.store) tt) (Refuses fault.NoRow)))) (get-empty key_cmp put_key)
 
 point_leads : Leads kv (world v_0 []) over_a_point point_refusals (world v_0 [])
 point_leads = (

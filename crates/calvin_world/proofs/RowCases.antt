@@ -17,7 +17,7 @@ use Rattle.calvin_app.specs.declared.kv.KvReply.{KvReply}
 use Rattle.calvin_app.specs.Rows.{Rows}
 use Rattle.calvin_app.specs.Writing.{keys_of}
 use Rattle.calvin_sched.specs.Scheduling.{Turn, is_done}
-use Rattle.calvin_sched.specs.Standing.{closed_at, none_done_from, stands, greatest_below}
+use Rattle.calvin_sched.specs.Standing.{by_store, closed_at, none_done_from, stands, greatest_below}
 use Rattle.calvin_sched.specs.Steps as sched
 use Rattle.calvin_sched.proofs.Readiness.{none_kept}
 use Rattle.calvin_node.specs.declared.act.Act.TheVariants.{Cool, Mark, Snapshot, Restart, Begin}
@@ -117,7 +117,7 @@ not_cold = nothing_in (λ k. not (has (keys_of (put_writes false false (x_8 fals
     nothing_in stays = get-retain_keys empty stays put_key (λ k e. ap stays (sym (key_cmp_exact put_key k e))) ∙ ap (λ o. cond (stays put_key) o None) (get-empty key_cmp put_key) ∙ none_either (stays put_key)
 
 no_table : ◌≡◌ {A = KvDeed} (node.cool_row (alone_with false false) put_key p) (Refuses fault.NoColdTable)
-no_table = λ i. by_scheduler {Reply = KvReply} p (cond (is_some (row_there i) && not (is_some (not_cold i))) (Refuses fault.NoColdTable) (Refuses fault.NoRow))
+no_table = λ i. by_scheduler {Reply = KvReply} p (by_store p.scheduler (cond (is_some (row_there i) && not (is_some (not_cold i))) (Refuses fault.NoColdTable) (Refuses fault.NoRow)))
 
 pub plain_runs : (w : WorldState KvRequest ℕ KvReply) × Leads kv (opening (alone_with false false)) plain_run plain_done w
 plain_runs = (

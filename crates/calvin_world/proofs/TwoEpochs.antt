@@ -26,7 +26,8 @@ use Rattle.calvin_synod.proofs.Proposals.{proposal_total, proposal_exact}
 use Rattle.calvin_order.specs.Merged.{Batch, end_of}
 use Rattle.calvin_sched.specs.declared.phase.Phase.TheVariants as phase
 use Rattle.calvin_sched.specs.Scheduling.{Turn, with_store, new_turn, turn_at, turn_done, is_before, is_done, local_writes}
-use Rattle.calvin_sched.specs.Standing.{closed_at, none_done_from, mark_where}
+use Rattle.calvin_store.specs.Points.{mark_at}
+use Rattle.calvin_sched.specs.Standing.{closed_at, none_done_from, by_store}
 use Rattle.calvin_sched.specs.Steps as sched
 use Rattle.calvin_sched.proofs.Readiness.{none_kept, none_passes}
 use Rattle.calvin_node.specs.Handling.{by_scheduler}
@@ -223,7 +224,7 @@ not_at_end : ◌≡◌ {A = KvDeed} (node.snapshot 0 u_11) (Refuses fault.NotAtE
 not_at_end = λ i. node.snapshot_by {Reply = KvReply} 0 u_11 (cond ((turn_done (first_is y_11.scheduler.store i) && true) && some_later y_11.scheduler.store i) (Does (closed_at 1 u_11.scheduler) u_11.scheduler.store.map) (Refuses fault.NotAtEnd))
 
 too_late : ◌≡◌ {A = KvDeed} (node.mark_end alone 0 u_11) (Refuses fault.PointTooLate)
-too_late = ap (λ (b : Bool). by_scheduler {Reply = KvReply} u_11 (cond (b && true) (mark_where true 1 u_11.scheduler u_11.scheduler.store.point) (Refuses fault.PointTooLate))) (some_later y_11.scheduler.store)
+too_late = ap (λ (b : Bool). by_scheduler {Reply = KvReply} u_11 (cond (b && true) (by_store u_11.scheduler (mark_at true (end_of 1) u_11.scheduler.store)) (Refuses fault.PointTooLate))) (some_later y_11.scheduler.store)
 
 unmarked_leads : Leads kv (world first_node []) unmarked unmarked_done (world u_11 sent_u)
 unmarked_leads = joined kv (world first_node []) (ordering put 0 0 ++ ordering (putting 2 6) 1 4 ++ running first_place) (done_times 19) (world y_11 sent_9) to_first
