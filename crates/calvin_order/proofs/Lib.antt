@@ -1,5 +1,6 @@
 pub mod Epochs
 pub mod Histories
+pub mod HoldingBack
 pub mod Joining
 pub mod NextEpochs
 pub mod Places

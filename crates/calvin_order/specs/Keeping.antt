@@ -2,22 +2,26 @@
 --     history_of opening closed decided      the data without requests that wait
 --     closed_len closed e      how many requests the batch closed for an epoch has
 --     History Args      these, and how many more epochs can be closed or decided without growing
---     sequencing_of history queue      the data with the requests that wait
---     Sequenced Args      these, for what there is room, and whether the next batch is ready
---     IsSequenced s ready      what is true of every sequencer
+--     held_of closings held      the requests held back, once so many batches were closed
+--     InTurn low high held      they were submitted one after another, when so many to so many batches had been closed
+--     sequencing_of history queue held      the data with the requests that wait or are held back
+--     Sequenced Args      these, after how many closings those held back join, for what there is room, and whether the next batch is ready
+--     IsSequenced history queue held ready      what is true of every sequencer
+--     can_submit s      a request's submission needs no memory
+--     can_submit_cold s      nor does that of one that is held back
 --     can_close s      closing needs no memory
 --     can_decide s e      being told that an epoch is decided needs no memory
 --     deed_of answer next      a test's answer as a deed
 --     IsHistory next undecided s      the next epoch, and how many requests of closed batches are undecided, as they are kept
-use Rattle.std.specs.Prelude.{◌≡◌, ℕ, ◌<◌, ◌≤◌, ◌^◌, Bool, true, ◌&&◌, List, [], nat_eq, nat_le, nat_lt, map, length, take, Option, Some, Result, Ok, Err, IsSome}
+use Rattle.std.specs.Prelude.{◌≡◌, ℕ, ◌-◌, ◌<◌, ◌≤◌, ◌^◌, Bool, true, ◌&&◌, List, [], ◌∷◌, nat_eq, nat_le, nat_lt, map, length, take, Option, Some, Result, Ok, Err, IsSome}
 use Rattle.std.specs.List.{IsDistinct}
 use Rattle.std.specs.Option.{unwrap_or}
 use Rattle.calvin_types.specs.declared.fault.Fault.{Fault}
-use Rattle.calvin_types.specs.declared.fault.Fault.TheVariants.{OutOfMemory}
 use Rattle.calvin_types.specs.declared.limits.TheConstants.{MOST_REQUESTS, MOST_UNDECIDED}
 use Rattle.calvin_types.specs.Deeds.{Deed, Refuses, Does}
+use Rattle.calvin_order.specs.declared.held_back.ColdRequest.{ColdRequest}
 use Rattle.calvin_order.specs.Merged.{Batch}
-use Rattle.calvin_order.specs.Sequencing.{Sequencing, closed_in, is_decided, next_epoch, undecided, load}
+use Rattle.calvin_order.specs.Sequencing.{HeldBack, Sequencing, closed_in, is_decided, next_epoch, undecided, load}
 
 module _ {Args : Type 0} where
   abbrev pub history_of : ℕ → List (ℕ × Batch Args) → List ℕ → Sequencing Args
@@ -42,21 +46,40 @@ pub record IsHistory {Args : Type 0} (next count : ℕ) (s : Sequencing Args) : 
   pub decided_fit : (e : ℕ) → is_decided s e ≡ true → e < 2 ^ 64
   pub counted : count ≡ undecided (is_decided s) s.closed
 
+module _ {Args : Type 0} where
+  abbrev pub held_of : ℕ → List (ColdRequest Args) → List (HeldBack Args)
+  held_of closings held = map (λ h. record { request = h.txn; closings = closings - h.since }) held
+
+  abbrev pub InTurn : ℕ → ℕ → List (ColdRequest Args) → Type 0
+  InTurn low high [] = low ≤ high
+  InTurn low high (h ∷ hs) = (low ≤ h.since) × InTurn h.since high hs
+
+  abbrev pub sequencing_of : Sequencing Args → Batch Args → List (ColdRequest Args) → Sequencing Args
+  sequencing_of history queue held = record { opening = history.opening; queue = queue; closed = history.closed; decided = history.decided; held_back = held_of (length history.closed) held }
+
 pub record Sequenced (Args : Type 0) : Type 0 where
   pub sequencing : Sequencing Args
-  -- how many requests can join the queue without growing
+  -- after how many closings a request that is held back joins the queue
+  pub delay : ℕ
+  -- how many requests can join the queue without growing, beside those held back, which have room there
   pub queue_room : ℕ
+  -- how many more can be held back
+  pub held_room : ℕ
   pub closed_room : ℕ
   pub decided_room : ℕ
   pub is_ready : Bool
 
 module _ {Args : Type 0} where
-  abbrev pub sequencing_of : Sequencing Args → Batch Args → Sequencing Args
-  sequencing_of history queue = record { opening = history.opening; queue = queue; closed = history.closed; decided = history.decided; held_back = [] }
+  pub record IsSequenced (history : Sequencing Args) (queue : Batch Args) (held : List (ColdRequest Args)) (ready : Option (Batch Args)) : Type 0 where
+    pub few : load (sequencing_of history queue held) ≤ MOST_UNDECIDED
+    pub made : (batch : Batch Args) → ready ≡ Some batch → batch ≡ take MOST_REQUESTS queue
+    pub in_turn : InTurn 0 (length history.closed) held
 
-  pub record IsSequenced (s : Sequencing Args) (ready : Option (Batch Args)) : Type 0 where
-    pub few : load s ≤ MOST_UNDECIDED
-    pub made : (batch : Batch Args) → ready ≡ Some batch → batch ≡ take MOST_REQUESTS s.queue
+  abbrev pub can_submit : Sequenced Args → Bool
+  can_submit s = nat_lt 0 s.queue_room
+
+  abbrev pub can_submit_cold : Sequenced Args → Bool
+  can_submit_cold s = nat_lt 0 s.queue_room && nat_lt 0 s.held_room
 
   abbrev pub can_close : Sequenced Args → Bool
   can_close s = nat_lt 0 s.closed_room && s.is_ready

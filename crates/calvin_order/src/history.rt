@@ -1,8 +1,8 @@
 //! The epochs that a sequencer closed, and those that it knows as decided.
-ghost use Rattle.std.specs.Prelude.{◌≡◌, ◌+◌, [], ◌∷◌, ◌++◌, IsOk, OnOk, IsOkUnless, ◌<◌, ◌≤◌, ◌^◌, false, true, MatchOption, IfSome, nat_eq, ℕ};
+ghost use Rattle.std.specs.Prelude.{◌≡◌, ◌+◌, [], ◌∷◌, ◌++◌, length, IsOk, OnOk, IsOkUnless, ◌<◌, ◌≤◌, ◌^◌, false, true, MatchOption, IfSome, nat_eq, ℕ};
 ghost use Rattle.std.specs.List.{list_any};
 ghost use Rattle.std.specs.Option.{option_copied, unwrap_or};
-ghost use Rattle.calvin_types.specs.declared.limits.TheConstants.{MOST_UNDECIDED};
+ghost use Rattle.calvin_types.specs.declared.limits.TheConstants.{MOST_REQUESTS, MOST_UNDECIDED};
 ghost use Rattle.calvin_order.specs.Keeping.{closed_len};
 ghost use Rattle.calvin_order.specs.Sequencing.{sequencing_from, closed_in, is_decided, next_epoch, undecided};
 
@@ -70,9 +70,17 @@ impl<Args: Copy> History<Args> {
         self.closed.get(&epoch)
     }
 
+    /// How many batches were closed.
+    pub fn closings(&self) -> usize
+        ensures { result ≡ length self.now.state.closed }
+    {
+        self.closed.len()
+    }
+
     /// How many requests the batch has that was closed for an epoch.
     pub fn closed_len(&self, epoch: u64) -> usize
-        ensures { result ≡ closed_len self.now.state.closed epoch }
+        ensures len { result ≡ closed_len self.now.state.closed epoch }
+        ensures at_most { result ≤ MOST_REQUESTS }
     {
         match self.closed(epoch) {
             Some(batch) => batch.len(),

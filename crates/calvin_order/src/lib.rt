@@ -1,8 +1,10 @@
-//! The merge of one node: it holds a batch for each slot and gives the epochs' requests in one order, epoch after
+//! How requests come to stand in one order. The sequencer of one node queues them, holds some of them back, and closes them
+//! in batches. The merge of one node holds a batch for each slot and gives the epochs' requests in one order, epoch after
 //! epoch, and in an epoch whole batches by ascending group.
 #![tactic(auto)]
 
 mod held;
+mod held_back;
 mod history;
 mod merge;
 mod queue;

@@ -30,6 +30,7 @@ pub fn first_batch<Args: Copy>(
 #[tactic(auto, using(crate::proofs::Queues::drop_one))]
 pub fn drop_first<Args: Copy>(queue: &mut VecDeque<Txn<Args>>, requests: usize)
     ensures items { queue.new.items ≡ drop requests queue.old.items }
+    ensures len { deque_len queue.new ≤ deque_len queue.old }
     ensures capacity { deque_capacity queue.new ≡ deque_capacity queue.old }
 {
     for _ in 0..requests {
@@ -64,6 +65,7 @@ fn put_missing<Args: Copy>(
 )
     requires room { deque_len queue.old + length closed.now ≤ deque_capacity queue.old }
     ensures items { queue.new.items ≡ left_over (Some closed.now) decided.now ++ queue.old.items }
+    ensures len { deque_len queue.new ≤ deque_len queue.old + length closed.now }
     ensures capacity { deque_capacity queue.new ≡ deque_capacity queue.old }
 {
     let mut i = closed.len();
@@ -84,6 +86,8 @@ pub fn put_back<Args: Copy>(
 )
     requires room { deque_len queue.old + length (unwrap_or (option_copied closed) []) ≤ deque_capacity queue.old }
     ensures items { queue.new.items ≡ left_over (option_copied closed.entry) decided.now ++ queue.old.items }
+    ensures len { deque_len queue.new ≤ deque_len queue.old + length (unwrap_or (option_copied closed.entry) []) }
+    ensures capacity { deque_capacity queue.new ≡ deque_capacity queue.old }
 {
     if let Some(closed) = closed {
         put_missing(queue, closed.as_slice(), decided.as_slice());

@@ -13,6 +13,7 @@ loop-i-preserved-then-not-is_among g c =
       within = omega (arith, i.within);
       items = pushed.items ∙ ap (λ l. c.index-closed-i.result ∷ l) i.items
           ∙ put_before (λ t. not (list_any (same_attempt t) c.args.decided.now)) c.args.closed.now c.args.queue.now.items c.loop-i.i c.index-closed-i.result some i.within c.index-closed-i.is (ap not (sym c.is_among.ensures ∙ c.if-not-is_among.true));
+      len = omega (arith, pushed.len, i.len, some);
       room = omega (arith, pushed.len, pushed.capacity, i.room, some);
       capacity = pushed.capacity ∙ i.capacity;
     }

@@ -8,6 +8,7 @@ abbrev pub invariant-loop-i : goal.invariant-loop-i
 invariant-loop-i g l = record {
   within : l.i ≤ length l.closed;
   items : l.queue.items ≡ filter (λ t. not (list_any (same_attempt t) l.decided)) (drop l.i l.closed) ++ l.initial.queue.items;
+  len : deque_len l.queue + l.i ≤ deque_len l.initial.queue + length l.closed;
   room : deque_len l.queue + l.i ≤ deque_capacity l.queue;
   capacity : deque_capacity l.queue ≡ deque_capacity l.initial.queue;
 }
