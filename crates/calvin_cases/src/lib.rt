@@ -15,4 +15,6 @@ mod merge;
 #[cfg(test)]
 mod plain;
 #[cfg(test)]
+mod sequencer;
+#[cfg(test)]
 mod synod;

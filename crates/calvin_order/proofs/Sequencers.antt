@@ -1,6 +1,6 @@
 -- What the calls of a sequencer in code make of its data.
 use Rattle.std.proofs.Common.{◌≡◌, ℕ, zero, suc, ◌+◌, ◌<◌, ◌≤◌, Bool, true, false, cond, not, List, [], ◌∷◌, ◌++◌, take, drop, length, nat_lt, nat_le, Option, Some, None, is_some, Ok, refl, sym, ap, subst, ◌∙◌, arith, length-append}
-use Rattle.std.specs.Prelude.{nat_eq}
+use Rattle.std.specs.Prelude.{◌&&◌, ◌||◌, nat_eq}
 use Rattle.std.specs.List.{list_any, filter}
 use Rattle.std.specs.Option.{unwrap_or}
 use Rattle.std.proofs.lemmas.Bool.{false≢true, and_parts}
@@ -146,5 +146,7 @@ module _ {Args : Type 0} where
       (none_made (record h { decided = h.decided ++ e ∷ [] }) (left_over (closed_in h.closed e) batch ++ q) hs (omega (arith, short, len, settles, few)) in_turn))
 
   -- the requests that were closed for it have room in the queue
-  pub decided_room : (s : Sequenced Args) (e : ℕ) → can_decide s e ≡ true → closed_len s.sequencing.closed e ≤ s.queue_room
-  decided_room s e can = let fits = (and_parts (nat_lt 0 s.decided_room) (nat_le (closed_len s.sequencing.closed e) s.queue_room) can).1 in grind (arith, fits)
+  pub decided_room : (s : Sequenced Args) (e : ℕ) → is_decided s.sequencing e ≡ false → can_decide s e ≡ true → closed_len s.sequencing.closed e ≤ s.queue_room
+  decided_room s e new can =
+      let fits = (and_parts (nat_lt 0 s.decided_room) (nat_le (closed_len s.sequencing.closed e) s.queue_room) (sym (ap (λ b. b || (nat_lt 0 s.decided_room && nat_le (closed_len s.sequencing.closed e) s.queue_room)) new) ∙ can)).1 in
+      grind (arith, fits)

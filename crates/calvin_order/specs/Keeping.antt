@@ -13,7 +13,7 @@
 --     can_decide s e      being told that an epoch is decided needs no memory
 --     deed_of answer next      a test's answer as a deed
 --     IsHistory next undecided s      the next epoch, and how many requests of closed batches are undecided, as they are kept
-use Rattle.std.specs.Prelude.{◌≡◌, ℕ, ◌-◌, ◌<◌, ◌≤◌, ◌^◌, Bool, true, ◌&&◌, List, [], ◌∷◌, nat_eq, nat_le, nat_lt, map, length, take, Option, Some, Result, Ok, Err, IsSome}
+use Rattle.std.specs.Prelude.{◌≡◌, ℕ, ◌-◌, ◌<◌, ◌≤◌, ◌^◌, Bool, true, ◌&&◌, ◌||◌, List, [], ◌∷◌, nat_eq, nat_le, nat_lt, map, length, take, Option, Some, Result, Ok, Err, IsSome}
 use Rattle.std.specs.List.{IsDistinct}
 use Rattle.std.specs.Option.{unwrap_or}
 use Rattle.calvin_types.specs.declared.fault.Fault.{Fault}
@@ -85,7 +85,7 @@ module _ {Args : Type 0} where
   can_close s = nat_lt 0 s.closed_room && s.is_ready
 
   abbrev pub can_decide : Sequenced Args → ℕ → Bool
-  can_decide s e = nat_lt 0 s.decided_room && nat_le (closed_len s.sequencing.closed e) s.queue_room
+  can_decide s e = is_decided s.sequencing e || (nat_lt 0 s.decided_room && nat_le (closed_len s.sequencing.closed e) s.queue_room)
 
 abbrev pub deed_of : {S Out : Type 0} → Result Out Fault → S → Deed S Out
 deed_of (Ok out) next = Does next out

@@ -254,8 +254,8 @@ impl<Args: Copy> Sequencer<Args> {
     }
 
     /// The batch of an epoch is known as decided: the requests closed here for it that aren't in it, by id and attempt,
-    /// stand at the queue's front again, in their order. Where that is known already nothing changes. Refused with
-    /// `OutOfMemory` where a growth was refused.
+    /// stand at the queue's front again, in their order. Where that is known already nothing changes, and no memory is
+    /// needed. Else refused with `OutOfMemory` where a growth was refused.
     pub fn decided(&mut self, epoch: u64, batch: &Batch<Args>) -> Result<(), Fault>
         ensures did { Did (not (can_decide self.old epoch)) result (Does (sequencing.decide epoch batch.now self.old.sequencing) tt) self.old.sequencing self.new.sequencing }
         ensures delay { self.new.delay ≡ self.old.delay }
@@ -280,6 +280,9 @@ impl<Args: Copy> Sequencer<Args> {
         ensures only { IsOkUnless result Fault.OutOfMemory }
         ensures succeeds { can_decide self.old epoch ≡ true → IsOk result }
     {
+        if self.history.is_decided(epoch) {
+            return Ok(());
+        }
         self.history.reserve_decided()?;
         let closed = self.history.closed_len(epoch);
         self.reserve_queue(closed)

@@ -1,7 +1,7 @@
 use Rattle.std.proofs.Common.{[], ◌++◌, length, sym, ap, subst, ◌∙◌, arith}
 use Rattle.std.specs.Option.{unwrap_or}
 use Rattle.calvin_order.specs.Keeping.{closed_len}
-use Rattle.calvin_order.specs.Sequencing.{left_over}
+use Rattle.calvin_order.specs.Sequencing.{is_decided, left_over}
 use Rattle.calvin_order.proofs.Sequencers.{Settles, decided_sequenced, decided_room}
 use Rattle.calvin_order.proofs.sequencer.Sequencer.decided.Goals as goal
 
@@ -10,7 +10,8 @@ invariant_of-self g c =
     let i = c.self-2.inside in
     let same = ap (λ v. v.sequencing) c.self.view_is ∙ sym (ap (λ v. v.sequencing) c.reserve_decided.ensures.same) ∙ sym (ap (λ v. v.sequencing) c.self-2.view_is) in
     let room = c.self-2.invariant.1 in
-    let some = decided_room c.reserve_decided.new.self c.args.epoch c.in_ok-reserve_decided.ensures.ok in
+    let new = ap (λ v. is_decided v.sequencing c.args.epoch) c.reserve_decided.ensures.same ∙ sym (ap (λ v. is_decided v.sequencing c.args.epoch) c.self.view_is) ∙ sym c.is_decided.ensures.decided ∙ c.if-is_decided.false in
+    let some = decided_room c.reserve_decided.new.self c.args.epoch new c.in_ok-reserve_decided.ensures.ok in
     let closed = ap (λ v. closed_len v.sequencing.closed c.args.epoch) c.self-2.view_is in
     let spare = ap (λ v. v.queue_room) c.self-2.view_is in
     let made = ap (λ o. length (unwrap_or o [])) c.closed.ensures in (
