@@ -122,13 +122,15 @@ fn lesser_refusals_first(rt: HostRuntime) -> Result<(), Fail> {
     let mut empty = Sequencer::new(alloc, 1);
     let mut full = Sequencer::new(alloc, 1);
     submit_many(alloc, &mut full, 0, 4096)?;
-    for (attempt, of_empty, of_keyless) in [(0, 32, 31), (1, 0, 31), (8, 0, 31), (9, 32, 31)] {
-        let keyed = request(alloc, 1, attempt)?;
-        let keyless = keyless(alloc, attempt)?;
-        assert_eq!(rt; refusals(&mut empty, keyed), (of_empty, of_empty));
-        assert_eq!(rt; refusals(&mut empty, keyless), (of_keyless, of_keyless));
-        assert_eq!(rt; refusals(&mut full, keyed), (30, 30));
-        assert_eq!(rt; refusals(&mut full, keyless), (30, 30));
+    for (attempt, of_keyed, of_keyless) in [(0, 32, 31), (1, 0, 31), (8, 0, 31), (9, 32, 31)] {
+        let found = refusals(&mut empty, request(alloc, 1, attempt)?);
+        assert_eq!(rt; found, (of_keyed, of_keyed), "attempt {attempt}");
+        let found = refusals(&mut empty, keyless(alloc, attempt)?);
+        assert_eq!(rt; found, (of_keyless, of_keyless), "attempt {attempt}");
+        let found = refusals(&mut full, request(alloc, 1, attempt)?);
+        assert_eq!(rt; found, (30, 30), "attempt {attempt}");
+        let found = refusals(&mut full, keyless(alloc, attempt)?);
+        assert_eq!(rt; found, (30, 30), "attempt {attempt}");
     }
     assert_eq!(rt; (empty.queued(), empty.held_back()), (2, 2));
     Ok(())
