@@ -6,22 +6,19 @@ ghost use Rattle.calvin_synod.specs.Roles.{promised};
 
 use crate::attempt::{Attempt, Report};
 use crate::vote::Recorded;
-use calvin_types::{Ballot, Fault, Slot};
+use calvin_types::{Ballot, Fault, RoomMap, Slot};
 use std::alloc::Global;
-use std::collections::HashMap;
 use std::marker::Model;
 
 /// At most one value for each slot. Room for some more can be reserved.
 #[derive(Drop)]
 pub struct BySlot<V> {
-    entries: HashMap<Slot, V>,
-    room: usize,
+    values: RoomMap<Slot, V>,
 }
 
 impl<V> Model for BySlot<V> {
-    ghost use Rattle.std.specs.Prelude.{◌≤◌};
-    ghost use Rattle.std.specs.FinMap.{from_entries};
-    ghost use Rattle.std.specs.HashMap.{spare};
+    ghost use Rattle.calvin_types.specs.Places.{slot_cmp};
+    ghost use Rattle.calvin_types.specs.RoomMaps.{by};
     ghost use Rattle.calvin_synod.specs.States.{BySlot};
     ghost use Rattle.calvin_synod.specs.Codes.{coded_by_slot};
 
@@ -29,9 +26,7 @@ impl<V> Model for BySlot<V> {
 
     ghost coded = { coded_by_slot V.code };
 
-    ghost view = { λ m. record { entries = from_entries m.entries.entries; room = m.room } };
-
-    ghost invariant = { λ m. m.room ≤ spare m.entries };
+    ghost view = { λ m. record { entries = by slot_cmp m.values; room = m.values.room } };
 }
 
 impl<V: Drop> BySlot<V> {
@@ -39,15 +34,14 @@ impl<V: Drop> BySlot<V> {
         ensures { result ≡ record { entries = map.empty; room = 0 } }
     {
         BySlot {
-            entries: HashMap::new(alloc),
-            room: 0,
+            values: RoomMap::new(alloc),
         }
     }
 
     pub fn get(&self, slot: Slot) -> Option<&V>
         ensures { option_copied result ≡ map.get self.now.entries slot }
     {
-        self.entries.get(&slot)
+        self.values.get(slot)
     }
 
     /// Puts a value at a slot, in place of the one that is there.
@@ -58,13 +52,7 @@ impl<V: Drop> BySlot<V> {
         ensures absent { OnErr result (map.get self.old.entries slot ≡ None) }
         ensures succeeds { 0 < self.old.room → IsOk result }
     {
-        match self.entries.insert(slot, value) {
-            Err(_) => Err(Fault::OutOfMemory),
-            Ok(_) => {
-                self.room = self.room.saturating_sub(1);
-                Ok(())
-            }
-        }
+        self.values.insert(slot, value)
     }
 
     /// Takes the value of a slot out.
@@ -72,7 +60,7 @@ impl<V: Drop> BySlot<V> {
         ensures value { result ≡ map.get self.old.entries slot }
         ensures removed { self.new ≡ record self.old { entries = map.remove self.old.entries slot } }
     {
-        self.entries.remove(&slot)
+        self.values.remove(slot)
     }
 
     /// Room for one more slot at least.
@@ -81,11 +69,7 @@ impl<V: Drop> BySlot<V> {
         ensures err { OnErr result (self.new ≡ self.old) }
         ensures only { IsOkUnless result Fault.OutOfMemory }
     {
-        if self.room == 0 {
-            self.entries.reserve(1)?;
-            self.room = 1;
-        }
-        Ok(())
+        self.values.reserve(1)
     }
 }
 
@@ -99,7 +83,7 @@ impl<B: Drop> BySlot<Recorded<B>> {
         ensures absent { OnErr result (map.get self.old.entries slot ≡ None) }
         ensures succeeds { 0 < self.old.room → IsOk result }
     {
-        match self.entries.get_mut(&slot) {
+        match self.values.get_mut(slot) {
             Some(recorded) => {
                 recorded.promise = ballot;
                 Ok(())
@@ -124,7 +108,7 @@ impl<B: Drop> BySlot<Attempt<B>> {
         requires few { ForSome (map.get self.old.entries slot) (λ t. length t.counted < 4) }
         ensures counted { ForSome (map.get self.old.entries slot) (λ t. self.new ≡ record self.old { entries = map.insert self.old.entries slot (record t { counted = t.counted ++ report ∷ [] }) }) }
     {
-        let Some(attempt) = self.entries.get_mut(&slot) else {
+        let Some(attempt) = self.values.get_mut(slot) else {
             return;
         };
         attempt.counted.push(report);

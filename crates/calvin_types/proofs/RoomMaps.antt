@@ -1,5 +1,6 @@
 -- A hash map of any keys beside the finite map that its entries are, in the order that the keys have.
-use Rattle.std.proofs.Common.{◌≡◌, Bool, true, cond, List, Some, None, sym, ◌∙◌}
+use Rattle.std.proofs.Common.{◌≡◌, Bool, true, cond, List, Option, Some, None, MutBor, is_some, sym, ap, subst, ◌∙◌}
+use Rattle.std.specs.Option.{IsSome, OnSome, option_copied_mut}
 use Rattle.std.specs.declared.cmp.Ordering.{Ordering}
 use Rattle.std.specs.Ordering.{eq_by_cmp}
 use Rattle.std.specs.Cmp.{IsTotalOrder, IsEquivalence, Equal-is, tied_itself}
@@ -24,3 +25,11 @@ module _ {K : Type 0} (eq : K → K → Bool) (R : K → K → Ordering) (total 
 
     pub removed : (es fs : List (K × V)) (k : K) → ((q : K) → lookup (eq q) fs ≡ cond (eq k q) None (lookup (eq q) es)) → from_entries {R = R} fs ≡ remove (from_entries es) k
     removed es fs k h = maps.one_removed eq R total exact eq_exact laws.refl es fs k h
+
+-- what holds where a key has a value holds where a `&mut` to it is lent
+pub on_lent : {X P : Type 0} (r : Option (MutBor X)) (found : Option X) → option_copied_mut r ≡ found → (IsSome found → P) → OnSome r P
+on_lent None found e h = tt
+on_lent (Some x) found e h = h (sym (ap is_some e))
+
+pub of_lent : {X P : Type 0} {r : Option (MutBor X)} {x : MutBor X} → r ≡ Some x → OnSome r P → P
+of_lent {P = P} e h = subst (λ o. OnSome o P) e h

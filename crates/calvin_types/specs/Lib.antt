@@ -12,6 +12,7 @@ pub mod Orders
 pub mod Participants
 pub mod PlaceLaws
 pub mod Places
+pub mod RoomLends
 pub mod RoomMaps
 pub mod SameKeys
 pub mod SameKeysLaws

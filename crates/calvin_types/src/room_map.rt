@@ -1,7 +1,8 @@
 //! Maps that can promise room.
 ghost use Rattle.std.specs.Prelude.{◌≡◌, ◌-◌, ◌<◌, ◌≤◌, [], max, None, IsOk, OnOk, OnErr, IsOkUnless};
 ghost use Rattle.std.specs.declared.cmp.Ordering.TheVariants.{Equal};
-ghost use Rattle.std.specs.Option.{option_copied};
+ghost use Rattle.std.specs.Borrow.{sem};
+ghost use Rattle.std.specs.Option.{option_copied, option_copied_mut};
 ghost use Rattle.std.specs.FinMap as map;
 ghost use Rattle.calvin_types.specs.RoomMaps.{by};
 
@@ -40,6 +41,8 @@ impl<K: Eq + Hash, V> Model for RoomMap<K, V> {
 }
 
 impl<K: RoomKey, V: Drop> RoomMap<K, V> {
+    ghost use Rattle.calvin_types.specs.RoomLends.{lends_at};
+
     /// No value, and room for none.
     pub fn new(alloc: Global) -> RoomMap<K, V>
         ensures { result ≡ record { list = []; room = 0 } }
@@ -55,6 +58,14 @@ impl<K: RoomKey, V: Drop> RoomMap<K, V> {
         ensures { option_copied result ≡ map.get (by K.cmp self.now) key }
     {
         self.entries.get(&key)
+    }
+
+    /// The value at a key, to be changed where it is. The room stays as it was.
+    pub fn get_mut(&mut self, key: K) -> Option<&mut V>
+        ensures* lends { sem 𝓛 (lends_at K.row V.row K.Hash K.cmp self.entry key result) }
+        ensures value { option_copied_mut result ≡ map.get (by K.cmp self.old) key }
+    {
+        self.entries.get_mut(&key)
     }
 
     /// Puts a value at a key, in place of the one that is there. It takes room for one key, also where one is there.
