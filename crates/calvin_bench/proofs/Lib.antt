@@ -13,3 +13,4 @@ pub mod Deeds
 pub mod Standing
 pub mod Stepping
 pub mod OneOrder
+pub mod Telling

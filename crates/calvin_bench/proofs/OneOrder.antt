@@ -9,7 +9,7 @@ use Rattle.calvin_types.specs.declared.fault.Fault.{Fault}
 use Rattle.calvin_types.specs.declared.place.Place.{Place}
 use Rattle.calvin_types.specs.Keys.{key_cmp, partition_of}
 use Rattle.calvin_types.specs.Orders.{Order, Rises}
-use Rattle.calvin_types.specs.Participants.{site}
+use Rattle.calvin_types.specs.Participants.{Site, site}
 use Rattle.calvin_types.proofs.PlaceOrder.{not_before_itself}
 use Rattle.calvin_app.specs.Meaning.{Meaning, WritesWithin}
 use Rattle.calvin_app.specs.Rows.{part}
@@ -64,7 +64,7 @@ module _ {Args Row Reply : Type 0} (m : Meaning Args Row Reply) (count : ℕ) (l
         subst (λ (n : Node Args Row). n ≡ record { partition = n.partition; scheduler = opened (end_of 0) (part count n.partition empty); pending = []; kept_at = end_of 0; kept = part count n.partition empty }) was.2 refl;
   }
 
-  same_nodes : (ns : List ℕ) → map (node_of m count law order) (map first_part ns) ≡ map (with_pending order) (map fresh ns)
+  same_nodes : (ns : List ℕ) → map (node_of m count law order) (map (first_part count) ns) ≡ map (with_pending order) (map fresh ns)
   same_nodes [] = refl
   same_nodes (p ∷ ns) = λ i. record { partition = p; scheduler = opened (end_of 0) (sym (part_of_none count p) i); pending = order; kept_at = end_of 0; kept = part count p empty } ∷ same_nodes ns i
 
@@ -83,8 +83,8 @@ module _ {Args Row Reply : Type 0} (m : Meaning Args Row Reply) (count : ℕ) (l
     replies = [];
     keeps = first_keeps;
     numbered = λ i x there.
-        let was = was_map first_part (range_with_len 0 count) i x there in
-        subst (λ (z : Part Args Row). (z.partition ≡ i) × (z.scheduler.opened_from ≡ end_of 0)) was.2 (number_at count i was.0 was.1, refl);
+        let was = was_map (first_part count) (range_with_len 0 count) i x there in
+        subst (λ (z : Part Args Row). (z.here ≡ site count i) × (z.scheduler.opened_from ≡ end_of 0)) was.2 (ap (site count) (number_at count i was.0 was.1), refl);
   }
 
   -- a partition that stands
@@ -95,13 +95,13 @@ module _ {Args Row Reply : Type 0} (m : Meaning Args Row Reply) (count : ℕ) (l
         none_later = λ q done. before_by_epoch q (end_of n) (at_end.none_later (ap (λ (q : Place). q.n) from) q done);
       }
 
-  pub runs_serially : (steps : List Step) (outcomes : List (Result (Outcome Row Reply) Fault)) (new : List (Part Args Row)) → Ran m count order (first_parts count) steps outcomes new → RunsSerially m count order steps outcomes new
+  pub runs_serially : (steps : List Step) (outcomes : List (Result (Outcome Row Reply) Fault)) (new : List (Part Args Row)) → Ran m order (first_parts count) steps outcomes new → RunsSerially m count order steps outcomes new
   runs_serially steps outcomes new h =
       let ran = ran_mirrored m count law order (first_parts count) steps outcomes new first_mirrored h in
       let holds = holds_from m count empty law _ ran.0.keeps in record {
         given = ran.1;
         rows = λ p x merged n there standing.
             let was = ran.0.numbered p x there in
-            let relation = subst (λ k. Stands (site_of count k) order x.scheduler (end_of n)) (sym was.0) (stands_there p x merged n was.1 standing) in
-            holds.rows p (node_of m count law order x) (end_of n) (get_map (node_of m count law order) new p x there) relation ∙ ap (λ k. part count k (rows_before m order empty (end_of n))) was.0;
+            let relation = subst (λ (h : Site). Stands (site_of count h.partition) order x.scheduler (end_of n)) (sym was.0) (stands_there p x merged n was.1 standing) in
+            holds.rows p (node_of m count law order x) (end_of n) (get_map (node_of m count law order) new p x there) relation ∙ ap (λ (h : Site). part count h.partition (rows_before m order empty (end_of n))) was.0;
       }

@@ -22,6 +22,7 @@ use Rattle.calvin_order.specs.Merged.{end_of}
 use Rattle.calvin_sched.specs.declared.phase.Phase.TheVariants.{Waiting, Begun, Done}
 use Rattle.calvin_sched.specs.Scheduling.{Scheduling, Turn, turn_at, with_turn, new_turn}
 use Rattle.calvin_sched.specs.Steps.{Serving, admit, admitted, begin, begun_turn, on_reads, finish, served_at}
+use Rattle.calvin_bench.specs.Turns.{Begins, Receives, Finishes}
 use Rattle.calvin_bench.specs.Lives as lives
 use Rattle.calvin_bench.specs.Lives.{Node, World, Event, NodeHappens, NodeStep}
 use Rattle.calvin_bench.specs.Steps.{Part, put_part, at_part, calling, admit_next, begin_at, served_in, receive, finish_at, step, Ran, IsSerialAt}
@@ -84,7 +85,7 @@ module _ {Args Row Reply : Type 0} (m : Meaning Args Row Reply) (count : ℕ) (l
   -- ---- the world beside it
 
   abbrev pub node_of : Part Args Row → Node Args Row
-  node_of x = record { partition = x.partition; scheduler = x.scheduler; pending = drop x.admitted order; kept_at = end_of 0; kept = part count x.partition empty }
+  node_of x = record { partition = x.here.partition; scheduler = x.scheduler; pending = drop x.admitted order; kept_at = end_of 0; kept = part count x.here.partition empty }
 
   abbrev pub world : List (Part Args Row) → List (lives.Reads Row) → List (lives.Given Reply) → World Args Row Reply
   world parts reads replies = record { order = order; settled = end_of 0; nodes = map node_of parts; reads = reads; replies = replies }
@@ -94,7 +95,11 @@ module _ {Args Row Reply : Type 0} (m : Meaning Args Row Reply) (count : ℕ) (l
     pub replies : List (lives.Given Reply)
     pub keeps : WorldKeeps m count empty law (world parts reads replies)
     -- each partition has its number, and was opened at the beginning
-    pub numbered : (i : ℕ) (x : Part Args Row) → slice_get parts i ≡ Some x → (x.partition ≡ i) × (x.scheduler.opened_from ≡ end_of 0)
+    pub numbered : (i : ℕ) (x : Part Args Row) → slice_get parts i ≡ Some x → (x.here ≡ site count i) × (x.scheduler.opened_from ≡ end_of 0)
+
+  -- where a partition is
+  sited : (parts : List (Part Args Row)) → Mirrored parts → (p : ℕ) (x : Part Args Row) → slice_get parts p ≡ Some x → x.here ≡ site count x.here.partition
+  sited parts mirrored p x there = let is = (mirrored.numbered p x there).0 in is ∙ ap (λ h. site count h.partition) (sym is)
 
   -- an event at the node of a partition
   happened : (parts : List (Part Args Row)) (mirrored : Mirrored parts) (event : Event Args) (x y : Part Args Row) → slice_get parts (lives.node_of event) ≡ Some x → (reads : List (lives.Reads Row)) (replies : List (lives.Given Reply))
@@ -112,57 +117,57 @@ module _ {Args Row Reply : Type 0} (m : Meaning Args Row Reply) (count : ℕ) (l
       })
 
   -- a partition that changed keeps its number, and where it was opened
-  renumbered : (parts : List (Part Args Row)) → Mirrored parts → (p : ℕ) (x y : Part Args Row) → slice_get parts p ≡ Some x → y.partition ≡ x.partition → y.scheduler.opened_from ≡ x.scheduler.opened_from
-      → (i : ℕ) (z : Part Args Row) → slice_get (slice_set parts p y) i ≡ Some z → (z.partition ≡ i) × (z.scheduler.opened_from ≡ end_of 0)
+  renumbered : (parts : List (Part Args Row)) → Mirrored parts → (p : ℕ) (x y : Part Args Row) → slice_get parts p ≡ Some x → y.here ≡ x.here → y.scheduler.opened_from ≡ x.scheduler.opened_from
+      → (i : ℕ) (z : Part Args Row) → slice_get (slice_set parts p y) i ≡ Some z → (z.here ≡ site count i) × (z.scheduler.opened_from ≡ end_of 0)
   renumbered parts mirrored p x y there same from =
       let was = mirrored.numbered p x there in
-      set_each (λ i (z : Part Args Row). (z.partition ≡ i) × (z.scheduler.opened_from ≡ end_of 0)) parts p y (same ∙ was.0, from ∙ was.1) mirrored.numbered
+      set_each (λ i (z : Part Args Row). (z.here ≡ site count i) × (z.scheduler.opened_from ≡ end_of 0)) parts p y (same ∙ was.0, from ∙ was.1) mirrored.numbered
 
   -- ---- the steps
 
   admit_mirrored : (parts : List (Part Args Row)) (p : ℕ) (mirrored : Mirrored parts) (x y : Part Args Row) → slice_get parts p ≡ Some x → (o : Option (Place × Txn Args)) → slice_get order x.admitted ≡ o → (out : Outcome Row Reply)
-      → admit_next m count order x o ≡ Does y out → Mirrored (slice_set parts p y)
+      → admit_next x o ≡ Does y out → Mirrored (slice_set parts p y)
   admit_mirrored parts p mirrored x y there None is out e = absurd (refuses_not e)
   admit_mirrored parts p mirrored x y there (Some a) is out e =
-      let called = calling_does (record x { admitted = x.admitted + 1 }) (λ _. Admitted) (admit (site count x.partition) a.0 a.1 x.scheduler) y out e in
-      let now = admit_does (site count x.partition) a.0 x.scheduler a.1 called.scheduler called.given called.does in
-      let next : y ≡ record x { scheduler = admitted (site count x.partition) x.scheduler a.0 a.1; admitted = x.admitted + 1 } = called.next ∙ ap (λ s. record x { scheduler = s; admitted = x.admitted + 1 }) now in record {
+      let called = calling_does (record x { admitted = x.admitted + 1 }) (λ _. Admitted) (admit x.here a.0 a.1 x.scheduler) y out e in
+      let now = admit_does x.here a.0 x.scheduler a.1 called.scheduler called.given called.does in
+      let next : y ≡ record x { scheduler = admitted x.here x.scheduler a.0 a.1; admitted = x.admitted + 1 } = called.next ∙ ap (λ s. record x { scheduler = s; admitted = x.admitted + 1 }) now in record {
         reads = mirrored.reads ++ [];
         replies = mirrored.replies ++ [];
-        keeps = happened parts mirrored (lives.Admit p) x y there [] [] (a.0, a.1, drop (x.admitted + 1) order, drop_at order x.admitted a is, ap node_of next, refl, refl);
-        numbered = renumbered parts mirrored p x y there (ap (λ z. z.partition) next) (ap (λ z. z.scheduler.opened_from) next ∙ admitted_from (site count x.partition) x.scheduler a.0 a.1);
+        keeps = happened parts mirrored (lives.Admit p) x y there [] [] (a.0, a.1, drop (x.admitted + 1) order, drop_at order x.admitted a is, ap node_of next ∙ ap (λ (h : Site). node_of (record x { scheduler = admitted h x.scheduler a.0 a.1; admitted = x.admitted + 1 })) (sited parts mirrored p x there), refl, refl);
+        numbered = renumbered parts mirrored p x y there (ap (λ z. z.here) next) (ap (λ z. z.scheduler.opened_from) next ∙ admitted_from x.here x.scheduler a.0 a.1);
       }
 
   abbrev Gives : List (Part Args Row) → Step → Outcome Row Reply → Type 0
   Gives new e out = Mirrored new × IsSerialAt m count order e (Ok out)
 
   begin_mirrored : (parts : List (Part Args Row)) (p : ℕ) (q : Place) (mirrored : Mirrored parts) (x y : Part Args Row) → slice_get parts p ≡ Some x → (out : Outcome Row Reply)
-      → begin_at m count order q x ≡ Does y out → Gives (slice_set parts p y) (the.Begin p q) out
+      → begin_at q x ≡ Does y out → Gives (slice_set parts p y) (the.Begin p q) out
   begin_mirrored parts p q mirrored x y there out e =
-      let here = site count x.partition in
+      let here = x.here in
       let called = calling_does x (λ (s : Serving Args Row). Served s.rows) (begin here q x.scheduler) y out e in
       let begun = begin_does here q x.scheduler called.scheduler called.given called.does in
       let j = begun_turn here x.scheduler.store.map begun.0.turn in
       let has : get called.scheduler.turns q ≡ Some j = ap (λ (z : Scheduling Args Row). get z.turns q) begun.0.now ∙ insert_here place_cmp place_total place_exact x.scheduler.turns q j in
-      let read : lives.Reads Row = record { place = q; from = x.partition; rows = j.served } in
-      let keeps = happened parts mirrored (lives.Begin p q) x y there (read ∷ []) [] (called.scheduler, j, begun.0, has, begun_not_waiting here x.scheduler.store.map begun.0.turn, ap node_of called.next, refl, refl) in
+      let read : lives.Reads Row = record { place = q; from = here.partition; rows = j.served } in
+      let keeps = happened parts mirrored (lives.Begin p q) x y there (read ∷ []) [] (called.scheduler, j, subst (λ h. Begins h x.scheduler q called.scheduler) (sited parts mirrored p x there) begun.0, has, begun_not_waiting here x.scheduler.store.map begun.0.turn, ap node_of called.next, refl, refl) in
       let due = keeps.reads (length mirrored.reads) read (last_of mirrored.reads read) in
       let told : out ≡ Served j.served = called.told ∙ ap (λ (s : Serving Args Row). Served s.rows) begun.1 in (
-        record { reads = mirrored.reads ++ read ∷ []; replies = mirrored.replies ++ []; keeps = keeps; numbered = renumbered parts mirrored p x y there (ap (λ z. z.partition) called.next) (ap (λ z. z.scheduler.opened_from) called.next ∙ ap (λ (z : Scheduling Args Row). z.opened_from) begun.0.now) },
+        record { reads = mirrored.reads ++ read ∷ []; replies = mirrored.replies ++ []; keeps = keeps; numbered = renumbered parts mirrored p x y there (ap (λ z. z.here) called.next) (ap (λ z. z.scheduler.opened_from) called.next ∙ ap (λ (z : Scheduling Args Row). z.opened_from) begun.0.now) },
         subst (λ o. IsSerialAt m count order (the.Begin p q) (Ok o)) (sym told)
-            (subst (λ n. IsSerialAt m count order (the.Begin n q) (Ok (Served j.served))) (mirrored.numbered p x there).0 due),
+            (subst (λ (h : Site). IsSerialAt m count order (the.Begin h.partition q) (Ok (Served j.served))) (mirrored.numbered p x there).0 due),
       )
 
   finish_mirrored : (parts : List (Part Args Row)) (p : ℕ) (q : Place) (mirrored : Mirrored parts) (x y : Part Args Row) → slice_get parts p ≡ Some x → (out : Outcome Row Reply)
-      → finish_at m count order q x ≡ Does y out → Gives (slice_set parts p y) (the.Finish p q) out
+      → finish_at m q x ≡ Does y out → Gives (slice_set parts p y) (the.Finish p q) out
   finish_mirrored parts p q mirrored x y there out e =
-      let here = site count x.partition in
+      let here = x.here in
       let called = calling_does x (λ (e : Txn Args × Answer Reply). Answered e.1) (finish m here q x.scheduler) y out e in
       let done = finish_does here q x.scheduler m called.scheduler called.given called.does in
       let reply : lives.Given Reply = record { by = p; place = q; answer = called.given.1 } in
-      let keeps = happened parts mirrored (lives.Finish p q) x y there [] (reply ∷ []) (called.scheduler, called.given.1, done.0, ap node_of called.next, refl, refl) in
+      let keeps = happened parts mirrored (lives.Finish p q) x y there [] (reply ∷ []) (called.scheduler, called.given.1, subst (λ h. Finishes m h x.scheduler q called.given.1 called.scheduler) (sited parts mirrored p x there) done.0, ap node_of called.next, refl, refl) in
       let right = (holds_from m count empty law _ keeps).replies (length mirrored.replies) reply (last_of mirrored.replies reply) in (
-        record { reads = mirrored.reads ++ []; replies = mirrored.replies ++ reply ∷ []; keeps = keeps; numbered = renumbered parts mirrored p x y there (ap (λ z. z.partition) called.next) (ap (λ z. z.scheduler.opened_from) called.next ∙ ap (λ (z : Scheduling Args Row). z.opened_from) done.0.now) },
+        record { reads = mirrored.reads ++ []; replies = mirrored.replies ++ reply ∷ []; keeps = keeps; numbered = renumbered parts mirrored p x y there (ap (λ z. z.here) called.next) (ap (λ z. z.scheduler.opened_from) called.next ∙ ap (λ (z : Scheduling Args Row). z.opened_from) done.0.now) },
         subst (λ o. IsSerialAt m count order (the.Finish p q) (Ok o)) (sym called.told) right,
       )
 
@@ -172,39 +177,39 @@ module _ {Args Row Reply : Type 0} (m : Meaning Args Row Reply) (count : ℕ) (l
   served_mirrored parts from q mirrored z there None is rows e = absurd (cc)
   served_mirrored parts from q mirrored z there (Some x) is rows e =
       let began = served_begun x rows e in
-      let keeps = happened parts mirrored (lives.AskReads from q) z z there (record { place = q; from = z.partition; rows = x.served } ∷ []) [] (x, is, began.0, refl, refl, refl) in
-      let shown = subst (λ ps. WorldKeeps m count empty law (world ps (mirrored.reads ++ record { place = q; from = z.partition; rows = x.served } ∷ []) (mirrored.replies ++ []))) (set_same parts from z there) keeps in
+      let keeps = happened parts mirrored (lives.AskReads from q) z z there (record { place = q; from = z.here.partition; rows = x.served } ∷ []) [] (x, is, began.0, refl, refl, refl) in
+      let shown = subst (λ ps. WorldKeeps m count empty law (world ps (mirrored.reads ++ record { place = q; from = z.here.partition; rows = x.served } ∷ []) (mirrored.replies ++ []))) (set_same parts from z there) keeps in
       subst (λ (r : lives.Reads Row). WorldKeeps m count empty law (world parts (mirrored.reads ++ r ∷ []) (mirrored.replies ++ [])))
-      (λ i. record { place = q; from = (mirrored.numbered from z there).0 i; rows = sym began.1 i }) shown
+      (λ i. record { place = q; from = ((mirrored.numbered from z there).0 i).partition; rows = sym began.1 i }) shown
 
   reads_mirrored : (parts : List (Part Args Row)) (p from : ℕ) (q : Place) (mirrored : Mirrored parts) (x y : Part Args Row) → slice_get parts p ≡ Some x → (out : Outcome Row Reply)
-      → (o : Option (Part Args Row)) → slice_get parts from ≡ o → (r : Result (Rows Row) Fault) → served_in q o ≡ r → receive m count order from q r x ≡ Does y out → Mirrored (slice_set parts p y)
+      → (o : Option (Part Args Row)) → slice_get parts from ≡ o → (r : Result (Rows Row) Fault) → served_in q o ≡ r → receive from q r x ≡ Does y out → Mirrored (slice_set parts p y)
   reads_mirrored parts p from q mirrored x y there out None is (Err f) served e = absurd (refuses_not e)
   reads_mirrored parts p from q mirrored x y there out None is (Ok rows) served e = absurd (cc)
   reads_mirrored parts p from q mirrored x y there out (Some z) is (Err f) served e = absurd (refuses_not e)
   reads_mirrored parts p from q mirrored x y there out (Some z) is (Ok rows) served e =
-      let called = calling_does x (λ _. Received) (on_reads (site count x.partition) q from rows x.scheduler) y out e in
+      let called = calling_does x (λ _. Received) (on_reads x.here q from rows x.scheduler) y out e in
       let read : lives.Reads Row = record { place = q; from = from; rows = rows } in
       let asked : Mirrored parts = record { reads = mirrored.reads ++ read ∷ []; replies = mirrored.replies ++ []; keeps = served_mirrored parts from q mirrored z is (turn_at z.scheduler q) refl rows served; numbered = mirrored.numbered } in
-      let received = on_reads_does (site count x.partition) q x.scheduler from rows called.scheduler called.given called.does in record {
+      let received = on_reads_does x.here q x.scheduler from rows called.scheduler called.given called.does in record {
         reads = asked.reads ++ [];
         replies = asked.replies ++ [];
-        keeps = happened parts asked (lives.Deliver p (length mirrored.reads)) x y there [] [] (called.scheduler, read, last_of mirrored.reads read, received, ap node_of called.next, refl, refl);
-        numbered = renumbered parts mirrored p x y there (ap (λ z. z.partition) called.next) (ap (λ z. z.scheduler.opened_from) called.next ∙ ap (λ (z : Scheduling Args Row). z.opened_from) received.now);
+        keeps = happened parts asked (lives.Deliver p (length mirrored.reads)) x y there [] [] (called.scheduler, read, last_of mirrored.reads read, subst (λ h. Receives h x.scheduler q from rows called.scheduler) (sited parts asked p x there) received, ap node_of called.next, refl, refl);
+        numbered = renumbered parts mirrored p x y there (ap (λ z. z.here) called.next) (ap (λ z. z.scheduler.opened_from) called.next ∙ ap (λ (z : Scheduling Args Row). z.opened_from) received.now);
       }
 
-  step_mirrored : (parts : List (Part Args Row)) (e : Step) (new : List (Part Args Row)) (out : Outcome Row Reply) → Mirrored parts → step m count order parts e ≡ Does new out → Gives new e out
+  step_mirrored : (parts : List (Part Args Row)) (e : Step) (new : List (Part Args Row)) (out : Outcome Row Reply) → Mirrored parts → step m order parts e ≡ Does new out → Gives new e out
   step_mirrored parts (the.Admit p) new out mirrored e =
-      let at = at_does parts p (λ x. admit_next m count order x (slice_get order x.admitted)) new out (slice_get parts p) refl e in
+      let at = at_does parts p (λ x. admit_next x (slice_get order x.admitted)) new out (slice_get parts p) refl e in
       (subst Mirrored (sym at.now) (admit_mirrored parts p mirrored at.old at.next at.there (slice_get order at.old.admitted) refl out at.does), tt)
   step_mirrored parts (the.Begin p q) new out mirrored e =
-      let at = at_does parts p (begin_at m count order q) new out (slice_get parts p) refl e in
+      let at = at_does parts p (begin_at q) new out (slice_get parts p) refl e in
       subst (λ ps. Gives ps (the.Begin p q) out) (sym at.now) (begin_mirrored parts p q mirrored at.old at.next at.there out at.does)
   step_mirrored parts (the.Reads p from q) new out mirrored e =
-      let at = at_does parts p (receive m count order from q (served_in q (slice_get parts from))) new out (slice_get parts p) refl e in
+      let at = at_does parts p (receive from q (served_in q (slice_get parts from))) new out (slice_get parts p) refl e in
       (subst Mirrored (sym at.now) (reads_mirrored parts p from q mirrored at.old at.next at.there out (slice_get parts from) refl (served_in q (slice_get parts from)) refl at.does), tt)
   step_mirrored parts (the.Finish p q) new out mirrored e =
-      let at = at_does parts p (finish_at m count order q) new out (slice_get parts p) refl e in
+      let at = at_does parts p (finish_at m q) new out (slice_get parts p) refl e in
       subst (λ ps. Gives ps (the.Finish p q) out) (sym at.now) (finish_mirrored parts p q mirrored at.old at.next at.there out at.does)
 
   refused_serial : (e : Step) (f : Fault) → IsSerialAt m count order e (Err f)
@@ -215,17 +220,17 @@ module _ {Args Row Reply : Type 0} (m : Meaning Args Row Reply) (count : ℕ) (l
 
   -- a step that ran
   one_ran : (grows : Bool) (parts : List (Part Args Row)) (e : Step) (outcome : Result (Outcome Row Reply) Fault) (new : List (Part Args Row)) → Mirrored parts
-      → (d : Deed (List (Part Args Row)) (Outcome Row Reply)) → step m count order parts e ≡ d → Did grows outcome d parts new → Mirrored new × IsSerialAt m count order e outcome
+      → (d : Deed (List (Part Args Row)) (Outcome Row Reply)) → step m order parts e ≡ d → Did grows outcome d parts new → Mirrored new × IsSerialAt m count order e outcome
   one_ran grows parts e (Ok out) new mirrored (Refuses f) is did = absurd did
   one_ran grows parts e (Ok out) new mirrored (Does next given) is did = step_mirrored parts e new out mirrored (is ∙ (λ i. Does (sym did.1 i) (sym did.0 i)))
   one_ran grows parts e (Err f) new mirrored (Refuses g) is did = (subst Mirrored (sym did.1) mirrored, refused_serial e f)
   one_ran grows parts e (Err f) new mirrored (Does next given) is did = (subst Mirrored (sym did.2) mirrored, refused_serial e f)
 
-  pub ran_mirrored : (parts : List (Part Args Row)) (steps : List Step) (outcomes : List (Result (Outcome Row Reply) Fault)) (new : List (Part Args Row)) → Mirrored parts → Ran m count order parts steps outcomes new
+  pub ran_mirrored : (parts : List (Part Args Row)) (steps : List Step) (outcomes : List (Result (Outcome Row Reply) Fault)) (new : List (Part Args Row)) → Mirrored parts → Ran m order parts steps outcomes new
       → Mirrored new × ((i : ℕ) (e : Step) (outcome : Result (Outcome Row Reply) Fault) → slice_get steps i ≡ Some e → slice_get outcomes i ≡ Some outcome → IsSerialAt m count order e outcome)
   ran_mirrored parts [] outcomes new mirrored ran = (subst Mirrored (sym ran.1) mirrored, λ i e outcome at. absurd (cc))
   ran_mirrored parts (e ∷ steps) outcomes new mirrored (outcome, rest, mid, is, did, ran) =
-      let first = one_ran _ parts e outcome mid mirrored (step m count order parts e) refl did in
+      let first = one_ran _ parts e outcome mid mirrored (step m order parts e) refl did in
       let later = ran_mirrored mid steps rest new first.0 ran in
       (later.0, each first.1 later.1)
     where

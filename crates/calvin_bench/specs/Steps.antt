@@ -1,9 +1,9 @@
 -- One replica of a given order: one scheduler for each partition, which all are told the order (Thomson et al. 2012,
 -- section 3.2).
---     Part      a partition: its number, its scheduler, and how many requests of the order it admitted or passed over
---     step m count order parts e      what a step makes of the partitions, and what it gives; or its refusal
---     grows m count order parts e      something becomes more by the step, so that memory can run out
---     Ran m count order parts steps outcomes new      one outcome for each step
+--     Part      a partition: which one it is, its scheduler, and how many requests of the order it admitted or passed over
+--     step m order parts e      what a step makes of the partitions, and what it gives; or its refusal
+--     grows m order parts e      something becomes more by the step, so that memory can run out
+--     Ran m order parts steps outcomes new      one outcome for each step
 --     first_parts count      nothing is admitted yet, and there are no rows
 --     IsSerialAt m count order e outcome      what a step gave is what the serial run has at its place
 --     RunsSerially m count order steps outcomes new      the theorem
@@ -16,7 +16,7 @@ use Rattle.calvin_types.specs.declared.place.Place.{Place}
 use Rattle.calvin_types.specs.declared.txn.Txn.{Txn}
 use Rattle.calvin_types.specs.Deeds.{Deed, Refuses, Does, Did}
 use Rattle.calvin_types.specs.Orders.{Order, StandsAt}
-use Rattle.calvin_types.specs.Participants.{site, local_keys, has_local_key}
+use Rattle.calvin_types.specs.Participants.{Site, site, local_keys, has_local_key}
 use Rattle.calvin_app.specs.declared.job.Job.{Job}
 use Rattle.calvin_app.specs.Meaning.{Meaning}
 use Rattle.calvin_app.specs.Rows.{Rows, view, part}
@@ -31,7 +31,7 @@ use Rattle.calvin_bench.specs.declared.step.Outcome.{Outcome}
 use Rattle.calvin_bench.specs.declared.step.Outcome.TheVariants.{Admitted, Served, Received, Answered}
 
 pub record Part (Args Row : Type 0) : Type 0 where
-  pub partition : ℕ
+  pub here : Site
   pub scheduler : Scheduling Args Row
   pub admitted : ℕ
 
@@ -61,50 +61,51 @@ module _ {Args Row : Type 0} where
   tested_at test (Some x) = test x
 
   -- nothing is admitted yet, and there are no rows
-  abbrev pub first_part : ℕ → Part Args Row
-  first_part p = record { partition = p; scheduler = opened (end_of 0) empty; admitted = 0 }
+  abbrev pub first_part : ℕ → ℕ → Part Args Row
+  first_part count p = record { here = site count p; scheduler = opened (end_of 0) empty; admitted = 0 }
 
   abbrev pub first_parts : ℕ → List (Part Args Row)
-  first_parts count = map first_part (range_with_len 0 count)
+  first_parts count = map (first_part count) (range_with_len 0 count)
 
   -- the request that is to be admitted has a key here
-  abbrev pub first_here : ℕ → Part Args Row → Option (Place × Txn Args) → Bool
-  first_here count x None = false
-  first_here count x (Some e) = has_local_key (site count x.partition) e.1
+  abbrev pub first_here : Part Args Row → Option (Place × Txn Args) → Bool
+  first_here x None = false
+  first_here x (Some e) = has_local_key x.here e.1
 
-module _ {Args Row Reply : Type 0} (m : Meaning Args Row Reply) (count : ℕ) (order : Order Args) where
+module _ {Args Row Reply : Type 0} where
   -- the next request of the order is admitted
   abbrev pub admit_next : Part Args Row → Option (Place × Txn Args) → Deed (Part Args Row) (Outcome Row Reply)
   admit_next x None = Refuses fault.NothingToLock
-  admit_next x (Some e) = calling (record x { admitted = x.admitted + 1 }) (λ _. Admitted) (admit (site count x.partition) e.0 e.1 x.scheduler)
+  admit_next x (Some e) = calling (record x { admitted = x.admitted + 1 }) (λ _. Admitted) (admit x.here e.0 e.1 x.scheduler)
 
   abbrev pub begin_at : Place → Part Args Row → Deed (Part Args Row) (Outcome Row Reply)
-  begin_at q x = calling x (λ s. Served s.rows) (begin (site count x.partition) q x.scheduler)
+  begin_at q x = calling x (λ s. Served s.rows) (begin x.here q x.scheduler)
 
   abbrev pub receive : ℕ → Place → Result (Rows Row) Fault → Part Args Row → Deed (Part Args Row) (Outcome Row Reply)
   receive from q (Err f) x = Refuses f
-  receive from q (Ok rows) x = calling x (λ _. Received) (on_reads (site count x.partition) q from rows x.scheduler)
+  receive from q (Ok rows) x = calling x (λ _. Received) (on_reads x.here q from rows x.scheduler)
 
+module _ {Args Row Reply : Type 0} (m : Meaning Args Row Reply) where
   abbrev pub finish_at : Place → Part Args Row → Deed (Part Args Row) (Outcome Row Reply)
-  finish_at q x = calling x (λ e. Answered e.1) (finish m (site count x.partition) q x.scheduler)
+  finish_at q x = calling x (λ e. Answered e.1) (finish m x.here q x.scheduler)
 
+  -- what a job writes is stored here, in part
+  abbrev pub writes_here : Part Args Row → Result (Job Args Row) Fault → Bool
+  writes_here x (Err f) = false
+  writes_here x (Ok j) = nat_lt 0 (length (local_writes x.here (writes_on m j.txn j.view)))
+
+module _ {Args Row Reply : Type 0} (m : Meaning Args Row Reply) (order : Order Args) where
   abbrev pub step : List (Part Args Row) → Step → Deed (List (Part Args Row)) (Outcome Row Reply)
   step parts (Admit p) = at_part parts p (λ x. admit_next x (slice_get order x.admitted)) (slice_get parts p)
   step parts (Begin p q) = at_part parts p (begin_at q) (slice_get parts p)
   step parts (Reads p from q) = at_part parts p (receive from q (served_in q (slice_get parts from))) (slice_get parts p)
-  step parts (Finish p q) = at_part parts p (finish_at q) (slice_get parts p)
-
-  -- ---- what grows
-
-  abbrev pub writes_here : Part Args Row → Result (Job Args Row) Fault → Bool
-  writes_here x (Err f) = false
-  writes_here x (Ok j) = nat_lt 0 (length (local_writes (site count x.partition) (writes_on m j.txn j.view)))
+  step parts (Finish p q) = at_part parts p (finish_at m q) (slice_get parts p)
 
   abbrev pub grows : List (Part Args Row) → Step → Bool
-  grows parts (Admit p) = tested_at (λ x. first_here count x (slice_get order x.admitted)) (slice_get parts p)
+  grows parts (Admit p) = tested_at (λ x. first_here x (slice_get order x.admitted)) (slice_get parts p)
   grows parts (Begin p q) = false
   grows parts (Reads p from q) = false
-  grows parts (Finish p q) = tested_at (λ x. writes_here x (job (site count x.partition) q x.scheduler)) (slice_get parts p)
+  grows parts (Finish p q) = tested_at (λ x. writes_here m x (job x.here q x.scheduler)) (slice_get parts p)
 
   -- ---- lists of steps
 
@@ -115,6 +116,7 @@ module _ {Args Row Reply : Type 0} (m : Meaning Args Row Reply) (count : ℕ) (o
       (outcome : Result (Outcome Row Reply) Fault) × (rest : List (Result (Outcome Row Reply) Fault)) × (mid : List (Part Args Row))
       × (outcomes ≡ outcome ∷ rest) × Did (grows parts e) outcome (step parts e) parts mid × Ran mid steps rest new
 
+module _ {Args Row Reply : Type 0} (m : Meaning Args Row Reply) (count : ℕ) (order : Order Args) where
   -- ---- the theorem
 
   -- an answer is the serial run's at its place; rows that are served are the view of the serial rows just before it
