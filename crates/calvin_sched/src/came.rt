@@ -3,7 +3,7 @@ ghost use Rattle.std.specs.Prelude.{◌≡◌, ◌-◌, ◌<◌, ◌≤◌, max,
 ghost use Rattle.std.specs.Option.{option_copied};
 ghost use Rattle.std.specs.FinMap as map;
 
-use calvin_app::View;
+use calvin_app::{App, View};
 use calvin_types::Fault;
 use std::alloc::Global;
 use std::collections::HashMap;
@@ -11,12 +11,12 @@ use std::marker::Model;
 
 /// At most one view of each partition. Room for some more can be reserved.
 #[derive(Drop)]
-pub struct Came<Row> {
-    views: HashMap<u8, View<Row>>,
+pub struct Came<A: App> {
+    views: HashMap<u8, View<A::Row>>,
     room: usize,
 }
 
-impl<Row> Model for Came<Row> {
+impl<A: App> Model for Came<A> {
     ghost use Rattle.std.specs.Prelude.{◌≤◌};
     ghost use Rattle.std.specs.FinMap.{from_entries};
     ghost use Rattle.std.specs.HashMap.{spare};
@@ -24,7 +24,7 @@ impl<Row> Model for Came<Row> {
     ghost use Rattle.std.specs.FinMap.{code};
     ghost use Rattle.calvin_sched.specs.Keeping as keeping;
 
-    ghost Value = { keeping.Came Row };
+    ghost Value = { keeping.Came A.Row };
 
     ghost coded = { Prim.hlevel (codes, code) };
 
@@ -33,9 +33,9 @@ impl<Row> Model for Came<Row> {
     ghost invariant = { λ c. c.room ≤ spare c.views };
 }
 
-impl<Row: Copy> Came<Row> {
+impl<A: App> Came<A> {
     /// No rows, and room for none.
-    pub fn new(alloc: Global) -> Came<Row>
+    pub fn new(alloc: Global) -> Came<A>
         ensures { result ≡ record { rows = map.empty; room = 0 } }
     {
         Came {
@@ -45,7 +45,7 @@ impl<Row: Copy> Came<Row> {
     }
 
     /// The rows of a partition.
-    pub fn get(&self, partition: u8) -> Option<&View<Row>>
+    pub fn get(&self, partition: u8) -> Option<&View<A::Row>>
         ensures { option_copied result ≡ map.get self.now.rows partition }
     {
         self.views.get(&partition)
@@ -59,7 +59,7 @@ impl<Row: Copy> Came<Row> {
     }
 
     /// Puts the rows of a partition. There is room for them.
-    pub fn insert(&mut self, partition: u8, view: View<Row>)
+    pub fn insert(&mut self, partition: u8, view: View<A::Row>)
         requires { 0 < self.old.room }
         ensures { self.new ≡ record { rows = map.insert self.old.rows partition view; room = self.old.room - 1 } }
     {

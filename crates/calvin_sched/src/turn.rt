@@ -25,7 +25,7 @@ use std::marker::Model;
 pub struct Turn<A: App> {
     job: Box<Job<A::Args, A::Row>>,
     phase: Phase,
-    came: Came<A::Row>,
+    came: Came<A>,
 }
 
 impl<A: App> Model for Turn<A> {
