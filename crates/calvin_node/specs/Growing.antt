@@ -5,7 +5,7 @@ use Rattle.calvin_types.specs.Orders.{Order}
 use Rattle.calvin_types.specs.Participants.{Site, has_local_key}
 use Rattle.calvin_synod.specs.Cases.{message_grows}
 use Rattle.calvin_order.specs.Configs.{Config}
-use Rattle.calvin_sched.specs.Scheduling.{Turn, turn_at, reads_here}
+use Rattle.calvin_sched.specs.Scheduling.{turn_at, is_read_here}
 use Rattle.calvin_node.specs.declared.packet.Content.{Content}
 use Rattle.calvin_node.specs.declared.packet.Content.TheVariants.{Synod}
 use Rattle.calvin_node.specs.NodeStates.{NodeState, site_of}
@@ -24,12 +24,7 @@ module _ {Args : Type 0} where
   is_first_here here (e ∷ rest) = has_local_key here e.1
 
 module _ {Args Row : Type 0} where
-  -- the request reads a key here; else no row is read, and none is sent
-  abbrev pub is_read_here : Site → Option (Turn Args Row) → Bool
-  is_read_here here None = false
-  is_read_here here (Some turn) = reads_here here turn.request
-
-  -- an event of the node itself
+  -- an event of the node itself. A request that reads no key here reads no row, and none is sent
   abbrev pub act_grows : Config → Act Args → NodeState Args Row → Bool
   act_grows c Merge x = is_some_request (next_merged c x)
   act_grows c Lock x = is_first_here (site_of c.partitions x) x.pending

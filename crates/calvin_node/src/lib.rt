@@ -3,9 +3,13 @@
 #![tactic(auto)]
 
 mod act;
+mod execution;
 mod law;
+mod node;
 mod packet;
+mod submissions;
 
 pub use act::Act;
 pub use law::refuses;
+pub use node::Node;
 pub use packet::{Address, Content, Packet};

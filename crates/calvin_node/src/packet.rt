@@ -1,7 +1,9 @@
 //! What nodes send each other and clients.
+ghost use Rattle.std.specs.Prelude.{◌≡◌, IfOk, IsOkUnless};
+
 use calvin_app::{Answer, View};
 use calvin_synod::Message;
-use calvin_types::{Batch, NodeId, Place, RequestId, Sets, Slot};
+use calvin_types::{Batch, Fault, NodeId, Place, RequestId, Sets, Slot};
 
 /// Whom a packet is for.
 #[derive(Clone, Copy, Debug, PartialEq, Eq)]
@@ -31,6 +33,26 @@ pub enum Content<Args, Row, Reply> {
     Warm(Sets),
     /// What the client's request came to: the place at which it was run, its name, its attempt, and the answer.
     Replies(Place, RequestId, u8, Answer<Reply>),
+}
+
+impl<Args: Copy, Row: Copy, Reply: Copy> Content<Args, Row, Reply> {
+    /// A copy, whose batch shares the memory. Refused with `OutOfMemory` where the batch can have no more owners.
+    pub fn copy(&self) -> Result<Content<Args, Row, Reply>, Fault>
+        ensures ok { IfOk result (λ c. c ≡ self.now) }
+        ensures only { IsOkUnless result Fault.OutOfMemory }
+    {
+        Ok(match self {
+            Content::Synod(message) => Content::Synod(message.copy()?),
+            Content::Decided(slot, batch) => Content::Decided(*slot, batch.copy()?),
+            Content::AskBatch(slot) => Content::AskBatch(*slot),
+            Content::Reads(place, rows) => Content::Reads(*place, *rows),
+            Content::AskReads(place) => Content::AskReads(*place),
+            Content::Warm(sets) => Content::Warm(*sets),
+            Content::Replies(place, id, attempt, answer) => {
+                Content::Replies(*place, *id, *attempt, *answer)
+            }
+        })
+    }
 }
 
 /// A packet on its way, or sent at some time before.

@@ -96,6 +96,11 @@ module _ {Args Row : Type 0} where
 
   -- ---- data
 
+  -- what is admitted reads a key that is stored here
+  abbrev pub is_read_here : Site → Option (Turn Args Row) → Bool
+  is_read_here here None = false
+  is_read_here here (Some x) = reads_here here x.request
+
   -- a request that waits for its locks
   abbrev pub new_turn : Txn Args → Turn Args Row
   new_turn t = record { request = t; phase = Waiting; served = empty; came = empty }

@@ -13,6 +13,7 @@ mod reading;
 mod scheduler;
 mod serving;
 mod snapshots;
+mod telling;
 mod turn;
 mod turns;
 

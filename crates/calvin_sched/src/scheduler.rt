@@ -169,7 +169,7 @@ impl<A: App, L: Locks + Drop, S: Rows<A::Row> + Drop> Scheduler<A, L, S> {
     }
 
     /// Whether the request at a place, which waits and has its locks, is run here. Refused where `begin` refuses.
-    fn ready_to_begin(&self, place: Place) -> Result<bool, Fault>
+    pub(crate) fn ready_to_begin(&self, place: Place) -> Result<bool, Fault>
         ensures ok { IfOk result (λ active. (x : Turning A.Args A.Row) × (turn_at self.now.scheduling place ≡ Some x) × (x.phase ≡ Waiting)
             × (steps.is_ready self.now.here self.now.scheduling place x.request ≡ true) × (active ≡ is_active self.now.here x.request)) }
         ensures err { IfErr result (λ fault. steps.begin self.now.here place self.now.scheduling ≡ Refuses fault) }
@@ -256,7 +256,7 @@ impl<A: App, L: Locks + Drop, S: Rows<A::Row> + Drop> Scheduler<A, L, S> {
 
     /// Whether a job is the one that is to be run at its place: refused with `NotCollected` where none is, and with
     /// `StaleJob` where it is another.
-    fn check_due(&self, job: &Job<A::Args, A::Row>) -> Result<(), Fault>
+    pub(crate) fn check_due(&self, job: &Job<A::Args, A::Row>) -> Result<(), Fault>
         ensures ok { OnOk result (steps.job self.now.here job.now.place self.now.scheduling ≡ Ok job.now) }
         ensures err { IfErr result (IsNotDue job.now (steps.job self.now.here job.now.place self.now.scheduling)) }
     {

@@ -24,7 +24,8 @@ use Rattle.calvin_bench.specs.Turns.{site_of}
 use Rattle.calvin_node.specs.declared.act.Act.{Act}
 use Rattle.calvin_node.specs.declared.act.Act.TheVariants.{Submit, SubmitCold, Cool, Close, Merge, Lock, Restart, Propose, Snapshot, Mark, Begin, Finish, AskForReads, AskForBatch}
 use Rattle.calvin_synod.specs.Cases.{message_grows}
-use Rattle.calvin_node.specs.Growing.{is_read_here, act_grows}
+use Rattle.calvin_sched.specs.Scheduling.{is_read_here}
+use Rattle.calvin_node.specs.Growing.{act_grows}
 use Rattle.calvin_node.specs.Handling.{telling}
 use Rattle.calvin_node.specs.NodeStates.{NodeState}
 use Rattle.calvin_node.specs.declared.packet.Packet.{Packet}

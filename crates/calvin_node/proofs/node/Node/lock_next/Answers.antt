@@ -1,0 +1,58 @@
+use Rattle.std.proofs.Common.{◌≡◌, [], ◌∷◌, drop, Ok, Err, sym, ap, subst, ◌∙◌}
+use Rattle.std.proofs.lemmas.Result.{err_from_is_err_and}
+use Rattle.calvin_types.specs.Participants.{site, has_local_key}
+use Rattle.calvin_types.specs.Deeds.{Did}
+use Rattle.calvin_sched.specs.Progress.{left}
+use Rattle.calvin_sched.specs.Steps as steps
+use Rattle.calvin_node.specs.declared.act.Act.TheVariants.{Lock}
+use Rattle.calvin_node.specs.Acting as acting
+use Rattle.calvin_node.specs.Growing.{act_grows}
+use Rattle.calvin_node.specs.Running.{NodeDid, config_of, state_of}
+use Rattle.calvin_node.proofs.Settling.{running, with_steps, left_again, locked, not_locked, first_and_rest}
+use Rattle.calvin_node.proofs.node.Node.lock_next.Goals as goal
+
+pub returns-in_err-admit : goal.returns-in_err-admit
+returns-in_err-admit g c =
+    let p = c.self.inside in
+    let x = state_of p.id p.member p.sequencer p.merge p.pending.items p.scheduler p.kept in
+    let config = config_of p.config.partitions p.config.replicas g.S.Rows.points g.S.Rows.cold p.sequencer.delay in
+    let e = c.in-Some.field-0.now in
+    let rest = drop 1 p.pending.items in
+    let there = first_and_rest p.pending.items e c.in-Some.ensures.item.3.0 c.in-Some.ensures.lookup in
+    let refused = err_from_is_err_and c.from_residual.result c.from_residual.ensures.1 in
+    let here = site p.config.partitions p.id.partition in
+    let s = c.admit.new.self.scheduling in
+    let undone = c.merged_epochs-epochs.ensures.undone in
+    let did = subst (λ h. Did {Out = Unit {0}} (has_local_key h e.1) (Err c.in_err-admit.field-0.0) (steps.admit h e.0 e.1 p.scheduler.scheduling) p.scheduler.scheduling s) c.self.invariant.here c.in_err-admit.ensures.did in
+    record {
+      did = subst (λ v. NodeDid {Reply = g.row.A-Reply.Denot} (act_grows v.config Lock v.state) c.from_residual.result (acting.lock v.config v.state) v
+          (running config (record x { scheduler = s; due = left s c.admit.new.self.due })) [] []) c.self.view_is
+          (subst (λ d. NodeDid {Reply = g.row.A-Reply.Denot} (act_grows config Lock x) c.from_residual.result (acting.lock config x) (running config x) (running config (record x { scheduler = s; due = left s d })) [] [])
+          (undone ∙ sym (ap (λ n. n.due) c.in_err-admit.ensures.rest))
+          (subst (λ r. NodeDid {Reply = g.row.A-Reply.Denot} (act_grows config Lock x) r (acting.lock config x) (running config x) (running config (with_steps x s x.pending)) [] []) (sym (refused.1 ∙ ap Err refused.2))
+          (subst (λ l. NodeDid {Reply = g.row.A-Reply.Denot} (act_grows config Lock (record x { pending = l })) (Err c.in_err-admit.field-0.0) (acting.lock_first config x l) (running config x) (running config (with_steps x s x.pending)) [] []) (sym there)
+          (not_locked g.row.A-Reply.Denot config x (left_again p.scheduler.scheduling p.scheduler.due) (has_local_key here e.1) c.in_err-admit.field-0.0 (steps.admit here e.0 e.1 p.scheduler.scheduling) s rest did))));
+    }
+
+pub returns : goal.returns
+returns g c =
+    let p = c.self.inside in
+    let x = state_of p.id p.member p.sequencer p.merge p.pending.items p.scheduler p.kept in
+    let config = config_of p.config.partitions p.config.replicas g.S.Rows.points g.S.Rows.cold p.sequencer.delay in
+    let e = c.in-Some.field-0.now in
+    let rest = drop 1 p.pending.items in
+    let there = first_and_rest p.pending.items e c.in-Some.ensures.item.3.0 c.in-Some.ensures.lookup in
+    let here = site p.config.partitions p.id.partition in
+    let s = c.admit.new.self.scheduling in
+    let undone = c.merged_epochs-epochs.ensures.undone in
+    let did = subst (λ h. Did (has_local_key h e.1) (Ok tt) (steps.admit h e.0 e.1 p.scheduler.scheduling) p.scheduler.scheduling s) c.self.invariant.here c.in_ok-admit.ensures.did in
+    record {
+      did = subst (λ v. NodeDid {Reply = g.row.A-Reply.Denot} (act_grows v.config Lock v.state) (Ok tt) (acting.lock v.config v.state) v
+          (running config (record x { scheduler = s; pending = c.pop_front-locked.new.self.items; due = left s c.admit.new.self.due })) [] []) c.self.view_is
+          (subst (λ l. NodeDid {Reply = g.row.A-Reply.Denot} (act_grows config Lock x) (Ok tt) (acting.lock config x) (running config x) (running config (record x { scheduler = s; pending = l; due = left s c.admit.new.self.due })) [] [])
+          (sym c.pop_front-locked.ensures.rest)
+          (subst (λ d. NodeDid {Reply = g.row.A-Reply.Denot} (act_grows config Lock x) (Ok tt) (acting.lock config x) (running config x) (running config (record x { scheduler = s; pending = rest; due = left s d })) [] [])
+          (undone ∙ sym (ap (λ n. n.due) c.in_ok-admit.ensures.rest))
+          (subst (λ l. NodeDid {Reply = g.row.A-Reply.Denot} (act_grows config Lock (record x { pending = l })) (Ok tt) (acting.lock_first config x l) (running config x) (running config (with_steps x s rest)) [] []) (sym there)
+          (locked g.row.A-Reply.Denot config x (left_again p.scheduler.scheduling p.scheduler.due) (has_local_key here e.1) (steps.admit here e.0 e.1 p.scheduler.scheduling) s rest did))));
+    }

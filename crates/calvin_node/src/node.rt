@@ -1,0 +1,106 @@
+//! One node.
+ghost use Rattle.std.specs.Prelude.{◌≡◌, ◌^◌, length, MatchOption};
+ghost use Rattle.std.specs.Option.{option_copied};
+ghost use Rattle.std.specs.FinMap as map;
+ghost use Rattle.calvin_order.specs.Sequencing.{next_epoch};
+ghost use Rattle.calvin_node.specs.NodeStates.{new_node};
+ghost use Rattle.calvin_node.specs.Running.{config_of};
+
+use calvin_app::App;
+use calvin_lock::Locks;
+use calvin_order::{Merge, Sequencer};
+use calvin_sched::Scheduler;
+use calvin_store::{Rows, Snapshot};
+use calvin_synod::Member;
+use calvin_types::{Batch, Config, NodeId, Place, Slot, Txn};
+use std::alloc::Global;
+use std::collections::VecDeque;
+use std::marker::Model;
+
+/// Partition p of replica r (Thomson et al. 2012, section 3): a sequencer, which gathers requests into batches; the replica's
+/// roles in the synods of its group, which agrees on them; the batches that are held, which are merged into one order; and
+/// the scheduler of the partition, over any lock manager and any keeper of rows. Of all this the synods' promises and votes,
+/// the greatest round used and the last snapshot are its durable record.
+///
+/// Each event of a node is one call. Where it takes effect the node is what the event's case leaves, and the packets that
+/// it sends are appended to the outbox that the call is handed; else the call is the refusal of that case, and nothing
+/// changed.
+#[derive(Drop)]
+pub struct Node<A: App, L: Locks + Drop, S: Rows<A::Row> + Drop> {
+    pub(crate) alloc: Global,
+    pub(crate) config: Config,
+    pub(crate) id: NodeId,
+    pub(crate) member: Member<A::Args>,
+    pub(crate) sequencer: Sequencer<A::Args>,
+    pub(crate) merge: Merge<A::Args>,
+    pub(crate) pending: VecDeque<(Place, Txn<A::Args>)>,
+    pub(crate) scheduler: Scheduler<A, L, S>,
+    pub(crate) kept: Option<(u64, Snapshot<A::Row>)>,
+}
+
+impl<A: App, L: Locks + Drop, S: Rows<A::Row> + Drop> Model for Node<A, L, S> {
+    ghost use Rattle.std.specs.Coded.{codes};
+    ghost use Rattle.std.specs.FinMap.{code};
+    ghost use Rattle.calvin_node.specs.Running.{Running, IsNode, config_of, state_of};
+
+    ghost Value = { Running A.Args A.Row };
+
+    ghost coded = { Prim.hlevel (codes, code) };
+
+    ghost view = { λ n. record {
+      config = config_of n.config.partitions n.config.replicas S.points S.cold n.sequencer.delay;
+      state = state_of n.id n.member n.sequencer n.merge n.pending.items n.scheduler n.kept;
+    } };
+
+    ghost invariant = { λ n. IsNode n.config.partitions n.config.replicas n.id n.member n.merge n.scheduler };
+}
+
+impl<A: App, L: Locks + Drop, S: Rows<A::Row> + Drop> Node<A, L, S> {
+    /// A node at first: nothing is submitted, promised, held or kept, and there is no row. A request that may touch cold rows
+    /// is held back for `delay` closings.
+    pub fn new(alloc: Global, config: &Config, delay: u8, id: NodeId) -> Node<A, L, S>
+        ensures config { result.config ≡ config_of config.now.partitions config.now.replicas S.points S.cold delay }
+        ensures state { result.state ≡ new_node id }
+    {
+        Node {
+            alloc,
+            config: *config,
+            id,
+            member: Member::new(alloc, config, id.replica),
+            sequencer: Sequencer::new(alloc, delay),
+            merge: Merge::new(alloc, config),
+            pending: VecDeque::new(alloc),
+            scheduler: Scheduler::new(alloc, config, id.partition),
+            kept: None,
+        }
+    }
+
+    /// Its name.
+    pub fn id(&self) -> NodeId
+        ensures { result ≡ self.now.state.id }
+    {
+        self.id
+    }
+
+    /// The epoch whose batch is closed next, if one is left below 2^64: the least one, from the first one since the last
+    /// restart on, that is neither closed here nor known as decided.
+    pub fn next_epoch(&self) -> Option<u64>
+        ensures { MatchOption result (next_epoch self.now.state.sequencer ≡ 2 ^ 64) (λ epoch. epoch ≡ next_epoch self.now.state.sequencer) }
+    {
+        self.sequencer.next_epoch()
+    }
+
+    /// How many requests are queued.
+    pub fn queued(&self) -> usize
+        ensures { result ≡ length self.now.state.sequencer.queue }
+    {
+        self.sequencer.queued()
+    }
+
+    /// The batch that is held for a slot.
+    pub fn held(&self, slot: Slot) -> Option<&Batch<A::Args>>
+        ensures { option_copied result ≡ map.get self.now.state.held slot }
+    {
+        self.merge.held(slot)
+    }
+}

@@ -1,0 +1,31 @@
+//! What reaches a node's sequencer, and the batches that it closes.
+ghost use Rattle.std.specs.Prelude.{[], true};
+ghost use Rattle.calvin_node.specs.Acting as acting;
+ghost use Rattle.calvin_node.specs.Running.{NodeDid};
+
+use crate::node::Node;
+use calvin_app::App;
+use calvin_lock::Locks;
+use calvin_store::Rows;
+use calvin_types::{Fault, Txn};
+
+impl<A: App, L: Locks + Drop, S: Rows<A::Row> + Drop> Node<A, L, S> {
+    /// A client's request joins the sequencer's queue. Refused with `QueueFull` where 4,096 requests are queued, held back, or
+    /// closed and undecided, with `EmptySets` where it declares no key, with `TooManyAttempts` where its attempt isn't 1 to
+    /// 8, else with `OutOfMemory` where a growth was refused.
+    pub fn submit(&mut self, txn: Txn<A::Args>) -> Result<(), Fault>
+        ensures did { NodeDid {Reply = A.Reply} true result (acting.submit txn self.old.state) self.old self.new [] [] }
+    {
+        self.sequencer.submit(txn)
+    }
+
+    /// The sequencer closes the batch of its next epoch (Thomson et al. 2012, section 3.1: an epoch ends): the requests at the
+    /// queue's front, 256 or all if there are fewer. Requests that were held back for so many closings join the queue's end
+    /// then. Refused with `EpochsSpent` where that epoch is 2^48 or more, else with `OutOfMemory` where a growth was refused.
+    pub fn close(&mut self) -> Result<(), Fault>
+        ensures did { NodeDid {Reply = A.Reply} true result (acting.close self.old.config self.old.state) self.old self.new [] [] }
+    {
+        let _epoch = self.sequencer.close()?;
+        Ok(())
+    }
+}
