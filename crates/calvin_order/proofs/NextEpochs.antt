@@ -34,7 +34,8 @@ distinct_none : IsDistinct nat_eq []
 unfolding IsDistinct
 distinct_none = tt
 
-first_least : (p : ℕ → Bool) (a n : ℕ) → (f : ℕ) → a ≤ f → f < first_not p a n → p f ≡ true
+-- of the first number that doesn't pass: each before it does
+pub first_least : (p : ℕ → Bool) (a n : ℕ) → (f : ℕ) → a ≤ f → f < first_not p a n → p f ≡ true
 first_least p a zero f low high = absurd (omega (arith, low, high))
 first_least p a (suc n) f low high = go (p a) refl high (λ up below. first_least p (suc a) n f up below)
   where
@@ -45,7 +46,8 @@ first_least p a (suc n) f low high = go (p a) refl high (λ up below. first_leas
       | inr same ↦ let at : a ≡ f = omega (arith, low, same) in ap p (sym at) ∙ is
     ]
 
-first_from : (p : ℕ → Bool) (a n : ℕ) → a ≤ first_not p a n
+-- it is the first one or a later one
+pub first_from : (p : ℕ → Bool) (a n : ℕ) → a ≤ first_not p a n
 first_from p a zero = omega arith
 first_from p a (suc n) = go (p a) (first_from p (suc a) n)
   where
@@ -54,7 +56,7 @@ first_from p a (suc n) = go (p a) (first_from p (suc a) n)
     go false more = omega arith
 
 -- it isn't used, or it is the one after all that were looked at
-first_stops : (p : ℕ → Bool) (a n : ℕ) → (p (first_not p a n) ≡ false) ⊎ (first_not p a n ≡ a + n)
+pub first_stops : (p : ℕ → Bool) (a n : ℕ) → (p (first_not p a n) ≡ false) ⊎ (first_not p a n ≡ a + n)
 first_stops p a zero = inr (omega arith)
 first_stops p a (suc n) = go (p a) refl (first_stops p (suc a) n)
   where
@@ -104,6 +106,7 @@ module _ {Args : Type 0} where
     | inr decided ↦ or_right (list_any (nat_eq e) (map (λ c. c.0) s.closed)) (list_any (nat_eq e) s.decided) decided
   ]
 
+  -- the next epoch is neither closed nor known as decided
   pub next_unused : (s : Sequencing Args) → is_used s (next_epoch s) ≡ false
   next_unused s = elim (first_stops (is_used s) s.opening (length s.closed + length s.decided)) [
     | inl free ↦ free
@@ -129,9 +132,11 @@ module _ {Args : Type 0} where
           let keys = length-keys s.closed in
           absurd (omega (arith, few, many, all, keys))
 
+  -- each before it, from the opening one on, is
   pub used_before : (s : Sequencing Args) (e : ℕ) → s.opening ≤ e → e < next_epoch s → is_used s e ≡ true
   used_before s e low high = first_least (is_used s) s.opening (length s.closed + length s.decided) e low high
 
+  -- it is the opening one or a later one
   pub opens_before : (s : Sequencing Args) → s.opening ≤ next_epoch s
   opens_before s = first_from (is_used s) s.opening (length s.closed + length s.decided)
 
