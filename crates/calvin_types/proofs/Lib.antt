@@ -1,6 +1,7 @@
 pub mod Conjunctions
 pub mod ExactMaps
 pub mod Fews
+pub mod FromEnd
 pub mod HashMaps
 pub mod KeyLists
 pub mod KeySets

@@ -1,5 +1,5 @@
 //! Sets of at most sixteen keys, and the two sets that a request declares.
-ghost use Rattle.std.specs.Prelude.{◌≡◌, ◌==◌, ℕ, ◌<◌, ◌≤◌, ◌↔◌, [], ◌∷◌, length, IsTrue, false, nat_le, slice_get, ◌⊎◌, IfErr, IfOk, OnOk, OnErr, IsErr, IsErrOf, IsOkUnless, MatchOption};
+ghost use Rattle.std.specs.Prelude.{◌≡◌, ◌==◌, ℕ, ◌+◌, ◌<◌, ◌≤◌, ◌↔◌, [], ◌∷◌, length, IsTrue, false, nat_le, slice_get, ◌⊎◌, IfErr, IfOk, OnOk, OnErr, IsErr, IsErrOf, IsOkUnless, MatchOption};
 ghost use Rattle.std.specs.List.{filter, list_any, list_all};
 ghost use Rattle.calvin_types.specs.KeyPlaces.{IsThere, IsMissingAt};
 ghost use Rattle.calvin_types.specs.Keys.{rises, has, insert_key, insert_all, are_distinct, takes, partition_of};
@@ -138,6 +138,21 @@ impl KeySet {
         }
     }
 
+    /// Adds a key as `add` does, for who gives the set up where the key can't be added: then no key is left. It looks from
+    /// the greatest key on, and moves those above the new one as it passes them.
+    pub fn add_or_clear(&mut self, key: Key) -> bool
+        ensures whether { result ≡ takes key self.old }
+        ensures added { IsTrue result → self.new ≡ insert_key key self.old }
+        ensures cleared { result ≡ false → self.new ≡ [] }
+        ensures at_most { length self.new ≤ MOST_KEYS }
+    {
+        if self.keys.len() < MOST_KEYS && put_from_end(&mut self.keys, key) {
+            return true;
+        }
+        self.keys = KeyList::new();
+        false
+    }
+
     /// Puts a key that is missing at its place, for which there is room.
     fn put(&mut self, i: usize, key: Key)
         requires missing { IsMissingAt key self.old i }
@@ -249,6 +264,32 @@ fn free_place(keys: &KeyList, key: Key) -> Option<usize>
         }
     }
     Some(keys.len())
+}
+
+/// Puts a key among fewer than sixteen that rise, and says so, unless it is there; then any keys may be left.
+fn put_from_end(keys: &mut KeyList, key: Key) -> bool
+    requires rising { IsTrue (rises keys.old) }
+    requires room { length keys.old < MOST_KEYS }
+    ensures put { IsTrue result → keys.new ≡ insert_key key keys.old }
+    ensures longer { IsTrue result → length (insert_key key keys.old) ≡ length keys.old + 1 }
+    ensures there { result ≡ false → insert_key key keys.old ≡ keys.old }
+{
+    let mut i = keys.len();
+    keys.push(key);
+    while i > 0 {
+        let other = keys.at(i - 1);
+        if other < key {
+            keys.set(i, key);
+            return true;
+        }
+        if other == key {
+            return false;
+        }
+        keys.set(i, other);
+        i -= 1;
+    }
+    keys.set(0, key);
+    true
 }
 
 /// The keys that a request declares that it reads, and those that it writes (Thomson et al. 2012, section 3.2: a
