@@ -76,7 +76,7 @@ where
 
 /// The text for the bytes of a script for an application, where it is written as usual: it is read without its JSON as a
 /// value, and the bytes are given back before it is run. What is read stays in memory: who runs a script ends
-/// thereafter, and to give back many small pieces one by one takes up to a twelfth of the whole run.
+/// thereafter, and to give back many small pieces one by one takes up to a thirteenth of the whole run.
 fn usual_answer<A: Settles + Copy + Drop>(
     alloc: Global,
     app: A,

@@ -28,7 +28,7 @@ member_read f y holds deep small found name wanted ts rest x is le s h = rw is (
 
 module _ {Args : Type 0} (grammar : Grammar Args) (found : Members) (d : Data) where
   module _ (r : RequestMembers Args) (h : HoldsRequest grammar found r) where
-    pub client_held : (x : ℕ) → (below (2 ^ 32)) d ≡ Some x → HoldsRequest grammar (put (codes "client") d found) (record r { txn = record r.txn { id = record { client = x; number = r.txn.id.number } }; seen = record r.seen { client = true } })
+    pub client_held : (x : ℕ) → (below (2 ^ 32)) d ≡ Some x → HoldsRequest grammar (put (codes "client") d found) (record r { id = record { client = x; number = r.id.number }; seen = record r.seen { client = true } })
     client_held x means = record {
       client = spelled_same (codes "client") d found (below (2 ^ 32)) x means;
       own_number = spelled_other (codes "client") d found (below (2 ^ 32)) (codes "number") _ refl h.own_number;
@@ -39,7 +39,7 @@ module _ {Args : Type 0} (grammar : Grammar Args) (found : Members) (d : Data) w
       named = named_put request_names (codes "client") d found refl h.named;
     }
 
-    pub own_number_held : (x : ℕ) → (below (2 ^ 32)) d ≡ Some x → HoldsRequest grammar (put (codes "number") d found) (record r { txn = record r.txn { id = record { client = r.txn.id.client; number = x } }; seen = record r.seen { number = true } })
+    pub own_number_held : (x : ℕ) → (below (2 ^ 32)) d ≡ Some x → HoldsRequest grammar (put (codes "number") d found) (record r { id = record { client = r.id.client; number = x }; seen = record r.seen { number = true } })
     own_number_held x means = record {
       client = spelled_other (codes "number") d found (below (2 ^ 32)) (codes "client") _ refl h.client;
       own_number = spelled_same (codes "number") d found (below (2 ^ 32)) x means;
@@ -50,7 +50,7 @@ module _ {Args : Type 0} (grammar : Grammar Args) (found : Members) (d : Data) w
       named = named_put request_names (codes "number") d found refl h.named;
     }
 
-    pub op_held : (x : Args) → (grammar.operation nameless) d ≡ Some x → HoldsRequest grammar (put (codes "op") d found) (record r { txn = record r.txn { args = x }; seen = record r.seen { op = true } })
+    pub op_held : (x : Args) → (grammar.operation nameless) d ≡ Some x → HoldsRequest grammar (put (codes "op") d found) (record r { args = x; seen = record r.seen { op = true } })
     op_held x means = record {
       client = spelled_other (codes "op") d found (below (2 ^ 32)) (codes "client") _ refl h.client;
       own_number = spelled_other (codes "op") d found (below (2 ^ 32)) (codes "number") _ refl h.own_number;
@@ -61,7 +61,7 @@ module _ {Args : Type 0} (grammar : Grammar Args) (found : Members) (d : Data) w
       named = named_put request_names (codes "op") d found refl h.named;
     }
 
-    pub attempt_held : (x : ℕ) → (below (2 ^ 8)) d ≡ Some x → HoldsRequest grammar (put (codes "attempt") d found) (record r { txn = record r.txn { attempt = x } })
+    pub attempt_held : (x : ℕ) → (below (2 ^ 8)) d ≡ Some x → HoldsRequest grammar (put (codes "attempt") d found) (record r { attempt = x })
     attempt_held x means = record {
       client = spelled_other (codes "attempt") d found (below (2 ^ 32)) (codes "client") _ refl h.client;
       own_number = spelled_other (codes "attempt") d found (below (2 ^ 32)) (codes "number") _ refl h.own_number;
@@ -72,7 +72,7 @@ module _ {Args : Type 0} (grammar : Grammar Args) (found : Members) (d : Data) w
       named = named_put request_names (codes "attempt") d found refl h.named;
     }
 
-    pub reads_held : (x : List Key) → (key_set key) d ≡ Some x → HoldsRequest grammar (put (codes "reads") d found) (record r { txn = record r.txn { sets = record { reads = x; writes = r.txn.sets.writes } }; seen = record r.seen { reads = true } })
+    pub reads_held : (x : List Key) → (key_set key) d ≡ Some x → HoldsRequest grammar (put (codes "reads") d found) (record r { declared = record { reads = x; writes = r.declared.writes }; seen = record r.seen { reads = true } })
     reads_held x means = record {
       client = spelled_other (codes "reads") d found (below (2 ^ 32)) (codes "client") _ refl h.client;
       own_number = spelled_other (codes "reads") d found (below (2 ^ 32)) (codes "number") _ refl h.own_number;
@@ -83,7 +83,7 @@ module _ {Args : Type 0} (grammar : Grammar Args) (found : Members) (d : Data) w
       named = named_put request_names (codes "reads") d found refl h.named;
     }
 
-    pub writes_held : (x : List Key) → (key_set key) d ≡ Some x → HoldsRequest grammar (put (codes "writes") d found) (record r { txn = record r.txn { sets = record { reads = r.txn.sets.reads; writes = x } }; seen = record r.seen { writes = true } })
+    pub writes_held : (x : List Key) → (key_set key) d ≡ Some x → HoldsRequest grammar (put (codes "writes") d found) (record r { declared = record { reads = r.declared.reads; writes = x }; seen = record r.seen { writes = true } })
     writes_held x means = record {
       client = spelled_other (codes "writes") d found (below (2 ^ 32)) (codes "client") _ refl h.client;
       own_number = spelled_other (codes "writes") d found (below (2 ^ 32)) (codes "number") _ refl h.own_number;

@@ -31,29 +31,29 @@ module _ {Args : Type 0} (grammar : Grammar Args) where
 
   module _ (found : Members) (r : RequestMembers Args) (args : Args) (h : HoldsRequest grammar found r)
       (client : r.seen.client ≡ true) (own_number : r.seen.number ≡ true) (op : r.seen.op ≡ true)
-      (renamed : (d : Data) → grammar.operation nameless d ≡ Some r.txn.args → grammar.operation r.txn.id d ≡ Some args) where
+      (renamed : (d : Data) → grammar.operation nameless d ≡ Some r.args → grammar.operation r.id d ≡ Some args) where
     -- with the sets that the operation needs where no row is known
     pub without_sets : r.seen.reads ≡ false → r.seen.writes ≡ false
-        → request grammar (object found) ≡ Some (record { txn = record { id = r.txn.id; attempt = r.txn.attempt; args = args; sets = grammar.first_needs args }; is_declared = false })
+        → request grammar (object found) ≡ Some (record { txn = record { id = r.id; attempt = r.attempt; args = args; sets = grammar.first_needs args }; is_declared = false })
     unfolding request request_of named sets_of id_of
     without_sets no_reads no_writes =
-        let c = there (below (2 ^ 32)) (get_member (codes "client") found) r.txn.id.client (rw client at h.client) in
-        let n = there (below (2 ^ 32)) (get_member (codes "number") found) r.txn.id.number (rw own_number at h.own_number) in
-        let o = there (grammar.operation nameless) (get_member (codes "op") found) r.txn.args (rw op at h.op) in
+        let c = there (below (2 ^ 32)) (get_member (codes "client") found) r.id.client (rw client at h.client) in
+        let n = there (below (2 ^ 32)) (get_member (codes "number") found) r.id.number (rw own_number at h.own_number) in
+        let o = there (grammar.operation nameless) (get_member (codes "op") found) r.args (rw op at h.op) in
         let reads = missing (key_set key) (get_member (codes "reads") found) (rw no_reads at h.reads) in
         let writes = missing (key_set key) (get_member (codes "writes") found) (rw no_writes at h.writes) in
         rw (h.named, c.1, n.1, o.1, h.attempt, c.2, n.2, renamed o.0 o.2, reads, writes) refl
 
     -- with the sets that were declared
-    pub with_sets : (sets : Sets) → r.seen.reads ≡ true → r.seen.writes ≡ true → grammar.completed args r.txn.sets ≡ Some sets
-        → request grammar (object found) ≡ Some (record { txn = record { id = r.txn.id; attempt = r.txn.attempt; args = args; sets = sets }; is_declared = true })
+    pub with_sets : (sets : Sets) → r.seen.reads ≡ true → r.seen.writes ≡ true → grammar.completed args r.declared ≡ Some sets
+        → request grammar (object found) ≡ Some (record { txn = record { id = r.id; attempt = r.attempt; args = args; sets = sets }; is_declared = true })
     unfolding request request_of named sets_of id_of
     with_sets sets some_reads some_writes whole =
-        let c = there (below (2 ^ 32)) (get_member (codes "client") found) r.txn.id.client (rw client at h.client) in
-        let n = there (below (2 ^ 32)) (get_member (codes "number") found) r.txn.id.number (rw own_number at h.own_number) in
-        let o = there (grammar.operation nameless) (get_member (codes "op") found) r.txn.args (rw op at h.op) in
-        let reads = there (key_set key) (get_member (codes "reads") found) r.txn.sets.reads (rw some_reads at h.reads) in
-        let writes = there (key_set key) (get_member (codes "writes") found) r.txn.sets.writes (rw some_writes at h.writes) in
+        let c = there (below (2 ^ 32)) (get_member (codes "client") found) r.id.client (rw client at h.client) in
+        let n = there (below (2 ^ 32)) (get_member (codes "number") found) r.id.number (rw own_number at h.own_number) in
+        let o = there (grammar.operation nameless) (get_member (codes "op") found) r.args (rw op at h.op) in
+        let reads = there (key_set key) (get_member (codes "reads") found) r.declared.reads (rw some_reads at h.reads) in
+        let writes = there (key_set key) (get_member (codes "writes") found) r.declared.writes (rw some_writes at h.writes) in
         rw (h.named, c.1, n.1, o.1, h.attempt, c.2, n.2, renamed o.0 o.2, reads.1, writes.1, reads.2, writes.2, whole) refl
 
   -- ---- batches and scripts

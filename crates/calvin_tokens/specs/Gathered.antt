@@ -25,12 +25,12 @@ given true x = Some (Some x)
 given false x = None
 
 pub record HoldsRequest {Args : Type 0} (grammar : Grammar Args) (found : Members) (r : RequestMembers Args) : Type 0 where
-  pub client : spelled_by (below (2 ^ 32)) (codes "client") found ≡ given r.seen.client r.txn.id.client
-  pub own_number : spelled_by (below (2 ^ 32)) (codes "number") found ≡ given r.seen.number r.txn.id.number
-  pub op : spelled_by (grammar.operation nameless) (codes "op") found ≡ given r.seen.op r.txn.args
-  pub attempt : optional 1 (below (2 ^ 8)) (get_member (codes "attempt") found) ≡ Some r.txn.attempt
-  pub reads : spelled_by (key_set key) (codes "reads") found ≡ given r.seen.reads r.txn.sets.reads
-  pub writes : spelled_by (key_set key) (codes "writes") found ≡ given r.seen.writes r.txn.sets.writes
+  pub client : spelled_by (below (2 ^ 32)) (codes "client") found ≡ given r.seen.client r.id.client
+  pub own_number : spelled_by (below (2 ^ 32)) (codes "number") found ≡ given r.seen.number r.id.number
+  pub op : spelled_by (grammar.operation nameless) (codes "op") found ≡ given r.seen.op r.args
+  pub attempt : optional 1 (below (2 ^ 8)) (get_member (codes "attempt") found) ≡ Some r.attempt
+  pub reads : spelled_by (key_set key) (codes "reads") found ≡ given r.seen.reads r.declared.reads
+  pub writes : spelled_by (key_set key) (codes "writes") found ≡ given r.seen.writes r.declared.writes
   pub named : are_named request_names found ≡ true
 
 pub record HoldsBatch {Args : Type 0} (grammar : Grammar Args) (found : Members) (b : BatchMembers (Request Args)) : Type 0 where

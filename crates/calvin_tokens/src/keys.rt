@@ -35,7 +35,7 @@ pub fn read_key_set<F: KeyTokens>(reader: &mut Reader<'_>, keys: &mut KeySet) ->
     opens_array(reader)?;
     'items: while !ends_array(reader) {
         let key = F::key_at(reader)?;
-        if !keys.add(key) {
+        if !keys.add_or_clear(key) {
             return None;
         }
     }

@@ -1,5 +1,5 @@
 //! Requests, read from tokens.
-ghost use Rattle.std.specs.Prelude.{◌≡◌, Some, IfSome};
+ghost use Rattle.std.specs.Prelude.{◌≡◌, [], Some, IfSome};
 ghost use Rattle.serde_json.specs.Data.{Members, no_members, object};
 ghost use Rattle.calvin_script.specs.Requests.{request};
 ghost use Rattle.calvin_tokens.specs.Gathered.{HoldsRequest};
@@ -11,9 +11,10 @@ use crate::object::{Object, read_object};
 use crate::operation::OperationTokens;
 use crate::tokens::{is_same, u8_of, u32_of};
 use calvin_script::{Kept, WholeKey};
-use calvin_types::{KeySet, MOST_REQUESTS, RequestId, Sets, Txn};
+use calvin_types::{KeySet, MOST_REQUESTS, RequestId, Sets};
 use json::Reader;
 use std::alloc::Global;
+use std::marker::Model;
 
 /// Which members of a request were read.
 #[derive(Clone, Copy)]
@@ -25,10 +26,62 @@ pub(crate) struct Seen {
     writes: bool,
 }
 
+/// The declared sets as they are gathered, which contracts see as sets. They take memory of their own, and none before
+/// there is a member for them.
+#[derive(Drop)]
+pub(crate) struct Declared {
+    sets: Option<Box<Sets>>,
+}
+
+impl Model for Declared {
+    ghost use Rattle.std.specs.Prelude.{[], option_map};
+    ghost use Rattle.std.specs.Option.{unwrap_or};
+    ghost use Rattle.calvin_types.specs.declared.key_set.Sets.{Sets};
+
+    ghost Value = { Sets };
+
+    ghost view = { λ d. unwrap_or (option_map (λ b. b.value) d.sets) (record { reads = []; writes = [] }) };
+}
+
+impl Declared {
+    /// Sets that have no key.
+    fn none() -> Declared
+        ensures { result ≡ record { reads = []; writes = [] } }
+    {
+        Declared { sets: None }
+    }
+
+    /// These sets.
+    fn of(sets: Box<Sets>) -> Declared
+        ensures { result ≡ sets.value }
+    {
+        Declared { sets: Some(sets) }
+    }
+
+    /// Takes the sets out, in memory of their own. There is no answer where memory runs out.
+    fn take(&mut self, alloc: Global) -> Option<Box<Sets>>
+        ensures { IfSome result (λ sets. sets.value ≡ self.old) }
+    {
+        match self.sets.take() {
+            Some(sets) => Some(sets),
+            None => {
+                let none = Sets {
+                    reads: KeySet::new(),
+                    writes: KeySet::new(),
+                };
+                Box::new(alloc, none).ok()
+            }
+        }
+    }
+}
+
 /// A request as it is gathered from its members. Its operation has no name before all were read.
-#[derive(Clone, Copy)]
+#[derive(Drop)]
 pub(crate) struct RequestMembers<Op> {
-    txn: Txn<Op>,
+    id: RequestId,
+    attempt: u8,
+    args: Op,
+    declared: Declared,
     seen: Seen,
 }
 
@@ -37,17 +90,9 @@ impl<Op: OperationTokens> RequestMembers<Op> {
     fn new() -> RequestMembers<Op>
         ensures { HoldsRequest Op.grammar no_members result }
     {
-        let txn = Txn {
-            id: RequestId {
-                client: 0,
-                number: 0,
-            },
-            attempt: 1,
-            args: Op::blank(),
-            sets: Sets {
-                reads: KeySet::new(),
-                writes: KeySet::new(),
-            },
+        let id = RequestId {
+            client: 0,
+            number: 0,
         };
         let seen = Seen {
             client: false,
@@ -56,7 +101,13 @@ impl<Op: OperationTokens> RequestMembers<Op> {
             reads: false,
             writes: false,
         };
-        RequestMembers { txn, seen }
+        RequestMembers {
+            id,
+            attempt: 1,
+            args: Op::blank(),
+            declared: Declared::none(),
+            seen,
+        }
     }
 
     /// The whole request when all members were read: its operation gets its name, and declared sets are completed.
@@ -67,19 +118,16 @@ impl<Op: OperationTokens> RequestMembers<Op> {
         if !self.seen.client || !self.seen.number || !self.seen.op {
             return None;
         }
-        self.txn.args.give_name(self.txn.id)?;
-        let (id, attempt) = (self.txn.id, self.txn.attempt);
+        self.args.give_name(self.id)?;
         if self.seen.reads && self.seen.writes {
-            self.txn.args.complete(&mut self.txn.sets)?;
-            let Ok(declared) = Box::new(alloc, self.txn.sets) else {
-                return None;
-            };
-            return Some(Kept::new(id, attempt, self.txn.args, Some(declared)));
+            let mut declared = self.declared.take(alloc)?;
+            self.args.complete(&mut declared)?;
+            return Some(Kept::new(self.id, self.attempt, self.args, Some(declared)));
         }
         if self.seen.reads || self.seen.writes {
             return None;
         }
-        Some(Kept::new(id, attempt, self.txn.args, None))
+        Some(Kept::new(self.id, self.attempt, self.args, None))
     }
 }
 
@@ -90,34 +138,44 @@ impl<Op: OperationTokens> Object for RequestMembers<Op> {
 
     ghost deep = { 121 };
 
-    fn read_member(&mut self, _alloc: Global, reader: &mut Reader<'_>, name: &str) -> Option<()> {
+    fn read_member(&mut self, alloc: Global, reader: &mut Reader<'_>, name: &str) -> Option<()> {
         if is_same(name, "client") {
-            self.txn.id.client = u32_of(reader)?;
+            self.id.client = u32_of(reader)?;
             self.seen.client = true;
             return Some(());
         }
         if is_same(name, "number") {
-            self.txn.id.number = u32_of(reader)?;
+            self.id.number = u32_of(reader)?;
             self.seen.number = true;
             return Some(());
         }
         if is_same(name, "op") {
-            self.txn.args.read_tokens(reader)?;
+            self.args.read_tokens(reader)?;
             self.seen.op = true;
             return Some(());
         }
-        if is_same(name, "reads") && self.txn.sets.reads.is_empty() {
-            read_key_set::<WholeKey>(reader, &mut self.txn.sets.reads)?;
+        if is_same(name, "reads") {
+            let mut sets = self.declared.take(alloc)?;
+            if !sets.reads.is_empty() {
+                return None;
+            }
+            read_key_set::<WholeKey>(reader, &mut sets.reads)?;
+            self.declared = Declared::of(sets);
             self.seen.reads = true;
             return Some(());
         }
-        if is_same(name, "writes") && self.txn.sets.writes.is_empty() {
-            read_key_set::<WholeKey>(reader, &mut self.txn.sets.writes)?;
+        if is_same(name, "writes") {
+            let mut sets = self.declared.take(alloc)?;
+            if !sets.writes.is_empty() {
+                return None;
+            }
+            read_key_set::<WholeKey>(reader, &mut sets.writes)?;
+            self.declared = Declared::of(sets);
             self.seen.writes = true;
             return Some(());
         }
         if is_same(name, "attempt") {
-            self.txn.attempt = u8_of(reader)?;
+            self.attempt = u8_of(reader)?;
             return Some(());
         }
         None

@@ -17,11 +17,11 @@ pub items-preserved : goal.items-preserved
 items-preserved g c =
     let kept : c.ends_array.new.reader ≡ c.items.reader = grind arith in
     let new : takes c.in_ok-key.key c.items.keys ≡ true = grind arith in
-    let more : c.add.new.self ≡ insert_key c.in_ok-key.key c.items.keys = grind arith in
+    let more : c.add_or_clear.new.self ≡ insert_key c.in_ok-key.key c.items.keys = grind arith in
     let spelled = c.in_ok-key.ensures in
     record {
-      onward = onward_more g.F.KeyForm.form c.opens_array.new.reader c.items.reader c.key_at.new.reader c.in_ok-key.key c.items.keys c.add.new.self c.items.invariant.onward (rw kept at spelled) new more;
-      few = c.add.ensures.at_most;
+      onward = onward_more g.F.KeyForm.form c.opens_array.new.reader c.items.reader c.key_at.new.reader c.in_ok-key.key c.items.keys c.add_or_clear.new.self c.items.invariant.onward (rw kept at spelled) new more;
+      few = c.add_or_clear.ensures.at_most;
     }
 
 pub items-smaller : goal.items-smaller
