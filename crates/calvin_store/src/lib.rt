@@ -8,8 +8,3 @@ mod snapshot;
 pub use plain::PlainRows;
 pub use rows::Rows;
 pub use snapshot::Snapshot;
-
-#[cfg(test)]
-mod list_rows;
-#[cfg(test)]
-mod tests;

@@ -35,8 +35,9 @@ impl<Row> Model for Snapshot<Row> {
 }
 
 impl<Row: Copy> Snapshot<Row> {
-    /// The rows of these pairs.
-    pub(crate) fn new(alloc: Global, pairs: Vec<(Key, Row)>) -> Result<Snapshot<Row>, Fault>
+    /// The rows of these pairs, which stand by ascending key: what a keeper makes of the rows that it has. Refused with
+    /// `OutOfMemory` where a growth was refused.
+    pub fn new(alloc: Global, pairs: Vec<(Key, Row)>) -> Result<Snapshot<Row>, Fault>
         requires { rising pairs.items }
         ensures ok { IfOk result (λ s. s ≡ shown pairs.items) }
         ensures only { IsOkUnless result Fault.OutOfMemory }

@@ -3,7 +3,7 @@ use Rattle.std.specs.FinMap as map
 use Rattle.calvin_app.specs.Entries.{rising, shown}
 use Rattle.calvin_app.specs.EntryLaws.{entries_kept}
 use Rattle.calvin_app.specs.Stores.{loaded}
-use Rattle.calvin_store.proofs.list_rows.ListRowsRows.load.Goals as goal
+use Rattle.calvin_store_cases.proofs.list_rows.ListRowsRows.load.Goals as goal
 
 pub invariant_of-self : goal.invariant_of-self
 invariant_of-self g c =

@@ -5,7 +5,7 @@ use Rattle.std.specs.FinMap as map
 use Rattle.calvin_types.specs.Keys.{key_cmp}
 use Rattle.calvin_app.specs.EntryLaws.{get-shown}
 use Rattle.calvin_app.proofs.Puts.{found, passed}
-use Rattle.calvin_store.proofs.list_rows.ListRowsRows.get.Goals as goal
+use Rattle.calvin_store_cases.proofs.list_rows.ListRowsRows.get.Goals as goal
 
 pub returns-then-eq : goal.returns-then-eq
 returns-then-eq g c =

@@ -1,6 +1,6 @@
 use Rattle.std.proofs.Common.{◌≡◌, ◌+◌, ◌≤◌, drop}
 use Rattle.calvin_app.specs.Rows.{overwritten}
-use Rattle.calvin_store.proofs.list_rows.ListRowsRows.put_all.Given as goal
+use Rattle.calvin_store_cases.proofs.list_rows.ListRowsRows.put_all.Given as goal
 
 -- what is left to write makes of the rows what all writes make of the rows before; each write takes one from the room at most
 abbrev pub invariant-loop-i : goal.invariant-loop-i

@@ -1,7 +1,7 @@
 use Rattle.std.proofs.Common.{◌≡◌, ◌++◌, take, drop}
 use Rattle.std.specs.FinMap as map
 use Rattle.calvin_types.specs.Keys.{key_cmp}
-use Rattle.calvin_store.proofs.list_rows.place_of.Given as goal
+use Rattle.calvin_store_cases.proofs.list_rows.place_of.Given as goal
 
 -- each pair so far is below the key
 abbrev pub invariant-loop-i : goal.invariant-loop-i

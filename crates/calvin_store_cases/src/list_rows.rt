@@ -1,15 +1,16 @@
-//! A second keeper, for tests: the pairs in one list, by ascending key.
+//! A second keeper: the pairs in one list, by ascending key.
 ghost use Rattle.std.specs.Prelude.{◌≡◌, ◌+◌, ◌<◌, ◌≤◌, IfOk, MatchResult};
 ghost use Rattle.std.specs.FinMap as map;
 ghost use Rattle.calvin_app.specs.EntryPlaces.{IsAt, IsMissingAt};
 
-use crate::{Rows, Snapshot};
 use calvin_app::Writes;
+use calvin_store::{Rows, Snapshot};
 use calvin_types::{Fault, Key, Place, Sets};
 use std::alloc::{AllocError, Global};
 use std::cmp::Ordering;
 use std::marker::Model;
 
+/// Rows in one list.
 #[derive(Drop)]
 pub(crate) struct ListRows<Row> {
     alloc: Global,

@@ -3,8 +3,8 @@ ghost use Rattle.std.specs.Prelude.{◌≡◌, ◌<◌, OnOk, OnErr};
 ghost use Rattle.calvin_app.specs.Stores.{put_at};
 
 use crate::list_rows::ListRows;
-use crate::{PlainRows, Rows, Snapshot};
 use calvin_app::Writes;
+use calvin_store::{PlainRows, Rows, Snapshot};
 use calvin_types::{Fault, Key, Place};
 use std::alloc::Global;
 use std::process::Abort;

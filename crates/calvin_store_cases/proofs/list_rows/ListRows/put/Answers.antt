@@ -4,9 +4,9 @@ use Rattle.std.specs.FinMap as map
 use Rattle.calvin_app.specs.EntryPlaces.{IsAt, IsMissingAt}
 use Rattle.calvin_app.specs.Entries.{rising, shown}
 use Rattle.calvin_app.specs.EntryLaws.{rising-put, shown-put}
-use Rattle.calvin_store.proofs.list_rows.ListRows.put.Given.{Over}
-use Rattle.calvin_store.proofs.list_rows.ListRows.put.Goals as goal
-use Rattle.calvin_store.proofs.list_rows.ListRows.put.Goals.{In-Ok, In-Err}
+use Rattle.calvin_store_cases.proofs.list_rows.ListRows.put.Given.{Over}
+use Rattle.calvin_store_cases.proofs.list_rows.ListRows.put.Goals as goal
+use Rattle.calvin_store_cases.proofs.list_rows.ListRows.put.Goals.{In-Ok, In-Err}
 
 present : (g : Over) (c : In-Ok g) → IsAt c.args.key c.self.inside.pairs.items c.in-Ok.i
 present g c = subst (λ es. IsAt c.args.key es c.in-Ok.i) c.deref.ensures.value c.in-Ok.ensures

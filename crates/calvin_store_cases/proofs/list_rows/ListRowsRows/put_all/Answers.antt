@@ -4,7 +4,7 @@ use Rattle.calvin_types.proofs.Fews.{drop_at}
 use Rattle.calvin_app.specs.Rows.{overwritten}
 use Rattle.calvin_app.specs.Stores.{loaded}
 use Rattle.calvin_app.proofs.StoreLaws.{put_at-loaded}
-use Rattle.calvin_store.proofs.list_rows.ListRowsRows.put_all.Goals as goal
+use Rattle.calvin_store_cases.proofs.list_rows.ListRowsRows.put_all.Goals as goal
 
 pub put-requires : goal.put-requires
 put-requires g c = omega (arith, c.loop-i.invariant.room, c.requires, c.loop-i-test.true, c.len-i-end.ensures.len)
