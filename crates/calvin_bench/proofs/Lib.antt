@@ -13,4 +13,7 @@ pub mod Deeds
 pub mod Standing
 pub mod Stepping
 pub mod OneOrder
-pub mod Telling
+pub mod ToldOrders
+pub mod Seats
+pub mod Sizes
+pub mod SteppedSeats

@@ -4,7 +4,8 @@ use Rattle.std.specs.Prelude.{slice_get, slice_range, not}
 use Rattle.std.specs.List.{list_all, filter}
 use Rattle.std.specs.FinMap.{empty, get, get-empty}
 use Rattle.std.proofs.Math.Seq.{take-add}
-use Rattle.std.proofs.lemmas.Bool.{cases_lt, eq-eqb}
+use Rattle.std.specs.Ordering.{is_lt}
+use Rattle.std.proofs.lemmas.Bool.{cases_lt, eq-eqb, false≢true}
 use Rattle.std.proofs.lemmas.List.{take_all}
 use Rattle.std.proofs.lemmas.Option.{slice_get_within, slice_get-get_or, slice_get_cases}
 use Rattle.calvin_types.specs.declared.fault.Fault.{Fault}
@@ -222,3 +223,36 @@ module _ {Args Row : Type 0} where
     told_refused grows f old new is did =
         let d = subst (λ (s : Scheduled Args Row). Did grows (Err f) (merge n (slice_range es at end) s) s new) is did in
         let e = subst (λ x. Did grows (Err f) x (told_upto here es at n) new) merges d in e.1
+
+-- a place that isn't before the next one
+pub not_rising : {Args : Type 0} (es : Order Args) → Rises es → (i j : ℕ) (a b : Place × Txn Args) → i ≡ suc j → slice_get es j ≡ Some a → slice_get es i ≡ Some b → is_before a.0 b.0 ≡ false → ⊥
+not_rising es rises i j a b is there here not = let less : j < i = omega (arith, is) in let h = rises_at es rises j i a b less there here in false≢true (sym not ∙ ap is_lt h)
+
+module _ {Args : Type 0} (es : Order Args) (n : ℕ) where
+  pub other_epoch : (i : ℕ) (a : Place × Txn Args) → slice_get es i ≡ Some a → (a.0.epoch ≡ n → ⊥) → (e : Place × Txn Args) → slice_get es i ≡ Some e → e.0.epoch ≡ n → ⊥
+  other_epoch i a there not e h same = let both : Some a ≡ Some e = sym there ∙ h in let one : a ≡ e = cc in not (ap (λ (x : Place × Txn Args). x.0.epoch) one ∙ same)
+
+  -- one more is of the epoch
+  pub of_epoch_more : (at i : ℕ) (a : Place × Txn Args) → slice_get es i ≡ Some a → a.0.epoch ≡ n → ((k : ℕ) (e : Place × Txn Args) → at ≤ k → k < i → slice_get es k ≡ Some e → e.0.epoch ≡ n)
+      → (k : ℕ) (e : Place × Txn Args) → at ≤ k → k < i + 1 → slice_get es k ≡ Some e → e.0.epoch ≡ n
+  of_epoch_more at i a there is each k e low high h = go (cases_lt k i)
+    where
+      go : (k < i) ⊎ (i ≤ k) → e.0.epoch ≡ n
+      go (inl early) = each k e low early h
+      go (inr late) =
+          let same : k ≡ i = omega (arith, late, high) in
+          let both : Some a ≡ Some e = sym there ∙ ap (slice_get es) (sym same) ∙ h in
+          let one : a ≡ e = cc in
+          sym (ap (λ (x : Place × Txn Args). x.0.epoch) one) ∙ is
+
+module _ {Args Row : Type 0} where
+  pub told_here : (s : Scheduled Args Row) (here : Site) (es : Order Args) (at n : ℕ) → s ≡ told_upto here es at n → s.here ≡ here
+  told_here s here es at n is = ap (λ (s : Scheduled Args Row). s.here) is
+
+  -- all of a scheduler that was told everything
+  pub told_all : (es : Order Args) → Rises es → (last : Place × Txn Args) → slice_get es (length es - 1) ≡ Some last → (old : Scheduled Args Row) → old ≡ told_upto old.here es 0 0 → (at : ℕ) → EndsAt es (suc last.0.epoch) at
+      → (new : Scheduled Args Row) → new ≡ told_upto old.here es at (suc last.0.epoch) → new ≡ record old { merged = epochs_of es; due = local_places old.here es }
+  told_all es rises last there old untold at ends new told =
+      let count : suc last.0.epoch ≡ epochs_of es = sym (epochs_are es rises last there) in
+      let due : local_places old.here (take at es) ≡ local_places old.here es = ap (local_places old.here) (ends_last es rises last there at ends) in
+      told ∙ (λ i. record { here = old.here; scheduling = (sym untold i).scheduling; room = (sym untold i).room; merged = count i; due = due i })

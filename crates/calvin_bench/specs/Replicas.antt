@@ -59,7 +59,7 @@ module _ {Args Row : Type 0} where
     pub due : left new.scheduler.scheduling new.scheduler.due ≡ left new.scheduler.scheduling old.scheduler.due
 
   abbrev pub AllTellAlike : List (Seat Args Row) → List (Seat Args Row) → Type 0
-  AllTellAlike old new = (i : ℕ) (x y : Seat Args Row) → slice_get old i ≡ Some x → slice_get new i ≡ Some y → TellsAlike x y
+  AllTellAlike old new = (i : ℕ) (y : Seat Args Row) → slice_get new i ≡ Some y → (x : Seat Args Row) × (slice_get old i ≡ Some x) × TellsAlike x y
 
 module _ {Args Row Reply : Type 0} (m : Meaning Args Row Reply) (count : ℕ) (order : Order Args) where
   pub record IsReached (parts : List (Part Args Row)) : Type 0 where
