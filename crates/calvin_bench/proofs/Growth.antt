@@ -18,7 +18,7 @@ use Rattle.calvin_order.proofs.Standing.{stands_split, stands_left, stands_right
 use Rattle.calvin_bench.proofs.SerialRows.{none_before, untouched}
 use Rattle.calvin_app.specs.Stores.{Store}
 use Rattle.calvin_bench.proofs.Versions.{Every, Upto, IsVersion, StoreKeeps}
-use Rattle.calvin_bench.proofs.OneReplica.{Keeps}
+use Rattle.calvin_bench.proofs.OnePartition.{Keeps}
 
 module _ {Args : Type 0} where
   pub rises_left : (xs ys : Order Args) → Rises (xs ++ ys) → Rises xs

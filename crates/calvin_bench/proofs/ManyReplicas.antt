@@ -26,7 +26,7 @@ use Rattle.calvin_bench.proofs.Placing.{places, earlier, same_place, later, befo
 use Rattle.calvin_bench.proofs.SerialRows.{answer_at, only_one}
 use Rattle.calvin_bench.proofs.Insertions.{insert_each}
 use Rattle.std.proofs.lemmas.Bool.{or_right}
-use Rattle.calvin_bench.proofs.OneReplica.{Keeps, opened_keeps, admit_keeps, begin_keeps, receive_keeps, finish_keeps, finish_answers, rows_standing, mark_keeps, stir_keeps, takes_keeps, takes_right, takes_opened, takes_done, takes_all_before}
+use Rattle.calvin_bench.proofs.OnePartition.{Keeps, opened_keeps, admit_keeps, begin_keeps, receive_keeps, finish_keeps, finish_answers, rows_standing, mark_keeps, stir_keeps, takes_keeps, takes_right, takes_opened, takes_done, takes_all_before}
 use Rattle.calvin_bench.proofs.Growth.{rows_kept, grow_keeps, rises_across}
 use Rattle.calvin_order.proofs.Standing.{stands_left, stands_split}
 use Rattle.calvin_bench.proofs.Lists.{set_each}

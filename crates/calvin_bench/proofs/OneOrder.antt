@@ -21,13 +21,14 @@ use Rattle.calvin_app.specs.Serial.{rows_before}
 use Rattle.calvin_bench.specs.Turns.{Stands, site_of}
 use Rattle.calvin_bench.specs.Lives.{Node, World, IsOpening, with_pending}
 use Rattle.calvin_bench.specs.Steps.{Part, first_part, first_parts, Ran, RunsSerially}
+use Rattle.calvin_bench.specs.Replicas.{IsReached}
 use Rattle.calvin_bench.specs.declared.step.Step.{Step}
 use Rattle.calvin_bench.specs.declared.step.Outcome.{Outcome}
 use Rattle.calvin_bench.proofs.KeyRows.{get-part, same_rows}
 use Rattle.calvin_bench.proofs.Lists.{get_map, was_map}
 use Rattle.calvin_bench.proofs.ManyReplicas.{WorldKeeps, settle_keeps, opening_keeps, holds_from}
 use Rattle.calvin_bench.proofs.Standing.{local_in, stands_is}
-use Rattle.calvin_bench.proofs.Stepping.{node_of, world, Mirrored, ran_mirrored}
+use Rattle.calvin_bench.proofs.Mirrored.{node_of, world, Mirrored, ran_mirrored}
 
 no_row : {Row : Type 0} (b : Bool) → ◌≡◌ {A = Option Row} (cond b None None) None
 no_row true = refl
@@ -95,9 +96,11 @@ module _ {Args Row Reply : Type 0} (m : Meaning Args Row Reply) (count : ℕ) (l
         none_later = λ q done. before_by_epoch q (end_of n) (at_end.none_later (ap (λ (q : Place). q.n) from) q done);
       }
 
-  pub runs_serially : (steps : List Step) (outcomes : List (Result (Outcome Row Reply) Fault)) (new : List (Part Args Row)) → Ran m order (first_parts count) steps outcomes new → RunsSerially m count order steps outcomes new
-  runs_serially steps outcomes new h =
-      let ran = ran_mirrored m count law order (first_parts count) steps outcomes new first_mirrored h in
+  -- from partitions that were reached
+  pub runs_from : (parts : List (Part Args Row)) → Mirrored m count law order parts → (steps : List Step) (outcomes : List (Result (Outcome Row Reply) Fault)) (new : List (Part Args Row)) → Ran m order parts steps outcomes new
+      → RunsSerially m count order steps outcomes new
+  runs_from parts mirrored steps outcomes new h =
+      let ran = ran_mirrored m count law order parts steps outcomes new mirrored h in
       let holds = holds_from m count empty law _ ran.0.keeps in record {
         given = ran.1;
         rows = λ p x merged n there standing.
@@ -105,3 +108,9 @@ module _ {Args Row Reply : Type 0} (m : Meaning Args Row Reply) (count : ℕ) (l
             let relation = subst (λ (h : Site). Stands (site_of count h.partition) order x.scheduler (end_of n)) (sym was.0) (stands_there p x merged n was.1 standing) in
             holds.rows p (node_of m count law order x) (end_of n) (get_map (node_of m count law order) new p x there) relation ∙ ap (λ (h : Site). part count h.partition (rows_before m order empty (end_of n))) was.0;
       }
+
+  pub runs_serially : (steps : List Step) (outcomes : List (Result (Outcome Row Reply) Fault)) (new : List (Part Args Row)) → Ran m order (first_parts count) steps outcomes new → RunsSerially m count order steps outcomes new
+  runs_serially = runs_from (first_parts count) first_mirrored
+
+  pub reached_mirrored : (parts : List (Part Args Row)) → IsReached m count order parts → Mirrored m count law order parts
+  reached_mirrored parts reached = (ran_mirrored m count law order (first_parts count) reached.steps reached.outcomes parts first_mirrored reached.ran).0

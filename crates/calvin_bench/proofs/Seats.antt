@@ -1,5 +1,5 @@
 -- What a call of a scheduler makes of its partition.
-use Rattle.std.proofs.Common.{◌≡◌, ℕ, ◌+◌, ◌<◌, Bool, true, false, cond, ◌⊎◌, inl, inr, List, [], ◌∷◌, length, Option, Some, None, Result, Ok, Err, refl, sym, ap, subst, ◌∙◌, arith}
+use Rattle.std.proofs.Common.{◌≡◌, ℕ, ◌+◌, ◌<◌, Bool, true, false, cond, ◌⊎◌, inl, inr, List, [], ◌∷◌, length, Some, Result, Ok, Err, refl, sym, ap, subst, ◌∙◌, arith}
 use Rattle.std.specs.Prelude.{slice_get, not, nat_lt}
 use Rattle.std.specs.List.{filter}
 use Rattle.std.proofs.lemmas.Bool.{false≢true}
@@ -9,7 +9,7 @@ use Rattle.calvin_types.specs.declared.place.Place.{Place}
 use Rattle.calvin_types.specs.declared.txn.Txn.{Txn}
 use Rattle.calvin_types.specs.Deeds.{Deed, Refuses, Does, Did}
 use Rattle.calvin_types.specs.Orders.{Order}
-use Rattle.calvin_types.specs.Participants.{Site, has_local_key}
+use Rattle.calvin_types.specs.Participants.{has_local_key}
 use Rattle.calvin_app.specs.declared.answer.Answer.{Answer}
 use Rattle.calvin_app.specs.declared.job.Job.{Job}
 use Rattle.calvin_app.specs.Meaning.{Meaning}
@@ -18,11 +18,11 @@ use Rattle.calvin_app.specs.Serial.{writes_on}
 use Rattle.calvin_sched.specs.Keeping.{Scheduled, IsNotDue, Finished}
 use Rattle.calvin_sched.specs.Progress.{left}
 use Rattle.calvin_sched.specs.Scheduling.{Scheduling, is_done, local_writes}
-use Rattle.calvin_sched.specs.Steps.{Serving, admit, begin, on_reads, job, finish_with, finish}
-use Rattle.calvin_bench.specs.Steps.{Part, calling, first_here, admit_next, begin_at, receive, finish_at, writes_here}
+use Rattle.calvin_sched.specs.Steps.{Serving, admit, begin, job, finish_with}
+use Rattle.calvin_bench.specs.Steps.{Part, calling, first_here, admit_next, begin_at, finish_at, writes_here}
 use Rattle.calvin_bench.specs.Replicas.{Seat, part_of, TellsAlike}
 use Rattle.calvin_bench.specs.declared.step.Outcome.{Outcome}
-use Rattle.calvin_bench.specs.declared.step.Outcome.TheVariants.{Admitted, Served, Received, Answered}
+use Rattle.calvin_bench.specs.declared.step.Outcome.TheVariants.{Admitted, Served, Answered}
 use Rattle.calvin_bench.proofs.Deeds.{job_is}
 
 -- what passes one test passes another, so that the first one may be tested before it

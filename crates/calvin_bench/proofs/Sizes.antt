@@ -1,6 +1,6 @@
 -- What a request that begins answers fits in memory where a request fits there with what it sees and what came of it: it has the
 -- request and a view, and in place of the writes only the numbers of partitions.
-use Prim.Native.Nat.{ℕ, ◌+◌, ◌-◌, ◌*◌, ◌%◌, ◌^◌, ◌<◌, ◌≤◌, max}
+use Prim.Native.Nat.{ℕ, ◌+◌, ◌*◌, ◌^◌, ◌<◌, ◌≤◌, max}
 use mir.Syntax.{Ty, Width, w8, w16, w32, w64, w128}
 use mir.Val.{bytes}
 use prog.Memory.{align, up}

@@ -1,5 +1,5 @@
 -- What a call at one partition makes of all of them.
-use Rattle.std.proofs.Common.{◌≡◌, ◌≢◌, ℕ, zero, suc, ◌<◌, ◌≤◌, Bool, true, false, List, [], ◌∷◌, length, map, Option, Some, None, Result, Ok, Err, refl, sym, ap, subst, ◌∙◌, arith}
+use Rattle.std.proofs.Common.{◌≡◌, ℕ, ◌≤◌, Bool, false, List, length, map, Some, None, Result, Ok, Err, refl, sym, ap, subst, ◌∙◌}
 use Rattle.std.specs.Prelude.{slice_get, slice_set}
 use Rattle.std.proofs.lemmas.List.{length-map}
 use Rattle.std.proofs.lemmas.Option.{slice_get_past}
@@ -10,10 +10,9 @@ use Rattle.calvin_types.specs.Deeds.{Deed, Refuses, Does, Did}
 use Rattle.calvin_app.specs.Rows.{Rows}
 use Rattle.calvin_sched.specs.Scheduling.{turn_at}
 use Rattle.calvin_sched.specs.Steps.{served_at}
-use Rattle.calvin_bench.specs.Steps.{Part, put_part, at_part, tested_at, served_in, receive}
+use Rattle.calvin_bench.specs.Steps.{Part, put_part, at_part, tested_at, served_in}
 use Rattle.calvin_bench.specs.Replicas.{Seat, part_of, TellsAlike, AllTellAlike}
-use Rattle.calvin_bench.specs.declared.step.Outcome.{Outcome}
-use Rattle.calvin_bench.proofs.Lists.{set_each, set_same, set_map, get_map, set_here}
+use Rattle.calvin_bench.proofs.Lists.{set_each, set_same, set_map, get_map}
 
 module _ {Args Row : Type 0} where
   tells_itself : (x : Seat Args Row) → TellsAlike x x

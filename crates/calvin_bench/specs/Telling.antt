@@ -1,7 +1,7 @@
 -- How a scheduler is told an order, epoch after epoch.
 --     EndsAt order n at      the requests of the first n epochs end at an index
 --     told_upto here order at n      a scheduler that was told the first n epochs, whose requests end at an index
-use Rattle.std.specs.Prelude.{◌≡◌, ℕ, ◌<◌, ◌≤◌, List, length, take, Some, slice_get}
+use Rattle.std.specs.Prelude.{◌≡◌, ℕ, ◌<◌, ◌≤◌, length, take, Some, slice_get}
 use Rattle.std.specs.FinMap.{empty}
 use Rattle.calvin_types.specs.declared.place.Place.{Place}
 use Rattle.calvin_types.specs.declared.txn.Txn.{Txn}

@@ -53,7 +53,7 @@ use Rattle.calvin_synod.proofs.Cases.{seat_of, holds_at_first}
 use Rattle.calvin_bench.specs.Lives
 use Rattle.calvin_bench.proofs.KeyRows.{same_rows, get-part}
 use Rattle.calvin_bench.proofs.SerialRows.{answer_at, only_one}
-use Rattle.calvin_bench.proofs.OneReplica.{rows_at_point}
+use Rattle.calvin_bench.proofs.OnePartition.{rows_at_point}
 use Rattle.calvin_bench.proofs.ManyReplicas.{opening_keeps, holds_from}
 use Rattle.calvin_bench.proofs.Lists.{contains_at, none_in, get_none, get_map, was_map}
 use Rattle.calvin_world.proofs.Indexes.{same_index}

@@ -6,7 +6,7 @@ use Rattle.std.proofs.lemmas.Bool.{cases_lt}
 use Rattle.calvin_app.specs.Meaning.{Meaning, WritesWithin}
 use Rattle.calvin_bench.specs.Turns.{site_of, HasTurn}
 use Rattle.calvin_bench.proofs.Growth.{rises_across}
-use Rattle.calvin_bench.proofs.OneReplica.{Keeps}
+use Rattle.calvin_bench.proofs.OnePartition.{Keeps}
 use Rattle.calvin_node.specs.NodeStates.{NodeState}
 use Rattle.calvin_node.specs.Acting.{lock, lock_by, lock_first}
 use Rattle.calvin_node.specs.Handling.{NodeDeed}

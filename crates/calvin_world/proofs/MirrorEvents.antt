@@ -27,7 +27,7 @@ use Rattle.calvin_sched.specs.Standing.{local_places}
 use Rattle.calvin_synod.specs.Cases.{Replica, Letters}
 use Rattle.calvin_types.specs.Orders.{Order, StandsAt}
 use Rattle.calvin_types.specs.Participants.{Site, has_local_key, is_active}
-use Rattle.calvin_bench.proofs.OneReplica.{Keeps}
+use Rattle.calvin_bench.proofs.OnePartition.{Keeps}
 use Rattle.calvin_types.specs.declared.place.NodeId.{NodeId}
 use Rattle.calvin_types.specs.declared.place.Place.{Place}
 use Rattle.calvin_types.specs.declared.place.Slot.{Slot}

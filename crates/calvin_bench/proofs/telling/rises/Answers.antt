@@ -1,8 +1,8 @@
-use Rattle.std.proofs.Common.{◌-◌, refl, sym, ap, ◌∙◌, arith, true, false}
+use Rattle.std.proofs.Common.{◌-◌, refl, sym, ◌∙◌, arith}
 use Rattle.std.proofs.lemmas.Bool.{false≢true}
 use Rattle.std.proofs.lemmas.Option.{slice_get-get_or}
 use Rattle.calvin_bench.proofs.Placing.{is_lt_true}
-use Rattle.calvin_bench.proofs.ToldOrders.{not_rising, next_rises, rises_by, rises_at}
+use Rattle.calvin_bench.proofs.ToldOrders.{not_rising, next_rises, rises_by}
 use Rattle.calvin_bench.proofs.telling.rises.Goals as goal
 
 pub returns-then-not-is_before : goal.returns-then-not-is_before

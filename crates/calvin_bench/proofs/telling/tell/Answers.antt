@@ -1,6 +1,6 @@
-use Rattle.std.proofs.Common.{◌≡◌, suc, ◌+◌, refl, sym, ap, subst, ◌∙◌, arith}
+use Rattle.std.proofs.Common.{◌≡◌, suc, ◌+◌, sym, ap, subst, ◌∙◌, arith}
 use Rattle.calvin_bench.specs.Telling.{EndsAt, told_upto}
-use Rattle.calvin_bench.proofs.ToldOrders.{told_all, told_here, ends_first}
+use Rattle.calvin_bench.proofs.ToldOrders.{told_all, told_here}
 use Rattle.calvin_bench.proofs.telling.tell.Goals as goal
 
 pub loop-epoch-preserved : goal.loop-epoch-preserved

@@ -1,7 +1,6 @@
 use denote.Memory.{lone}
 use prog.Memory.{align, size}
 use Rattle.std.proofs.Common.{ap, ◌∙◌}
-use Rattle.std.proofs.lemmas.Result.{err_from_is_err_and}
 use Rattle.calvin_bench.proofs.Sizes.{align_most, serving_fits}
 use Rattle.calvin_bench.proofs.Seats.{tells, begun_ok}
 use Rattle.calvin_bench.proofs.partition.Partition.begin.Goals as goal

@@ -1,4 +1,4 @@
-use Rattle.std.proofs.Common.{sym, ap, ◌∙◌}
+use Rattle.std.proofs.Common.{sym, ap}
 use Rattle.std.proofs.lemmas.Result.{err_from_is_err_and}
 use Rattle.calvin_bench.proofs.Seats.{tells, finished_err}
 use Rattle.calvin_bench.proofs.partition.Partition.finish.Goals as goal

@@ -49,7 +49,7 @@ module _ {Args Row Out : Type 0} where
   put_does parts p deed x there (Refuses f) is new out e = absurd (refuses_not e)
   put_does parts p deed x there (Does y given) is new out e = let both = does_is e in record { old = x; next = y; there = there; does = is ∙ ap (Does y) (sym both.1); now = both.0 }
 
-  at_does : (parts : List (Part Args Row)) (p : ℕ) (deed : Part Args Row → Deed (Part Args Row) Out) (new : List (Part Args Row)) (out : Out) (o : Option (Part Args Row)) → slice_get parts p ≡ o
+  pub at_does : (parts : List (Part Args Row)) (p : ℕ) (deed : Part Args Row → Deed (Part Args Row) Out) (new : List (Part Args Row)) (out : Out) (o : Option (Part Args Row)) → slice_get parts p ≡ o
       → at_part parts p deed o ≡ Does new out → At parts p deed new out
   at_does parts p deed new out None is e = absurd (refuses_not e)
   at_does parts p deed new out (Some x) is e = put_does parts p deed x is (deed x) refl new out e
@@ -61,7 +61,7 @@ module _ {Args Row Out : Type 0} where
     pub next : y ≡ record x { scheduler = scheduler }
     pub told : out ≡ tell given
 
-  calling_does : {Given : Type 0} (x : Part Args Row) (tell : Given → Out) (d : Deed (Scheduling Args Row) Given) (y : Part Args Row) (out : Out) → calling x tell d ≡ Does y out → Called x tell d y out
+  pub calling_does : {Given : Type 0} (x : Part Args Row) (tell : Given → Out) (d : Deed (Scheduling Args Row) Given) (y : Part Args Row) (out : Out) → calling x tell d ≡ Does y out → Called x tell d y out
   calling_does x tell (Refuses f) y out e = absurd (refuses_not e)
   calling_does x tell (Does s given) y out e = let both = does_is e in record { scheduler = s; given = given; does = refl; next = both.0; told = both.1 }
 
