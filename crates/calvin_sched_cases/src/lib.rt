@@ -1,0 +1,7 @@
+//! The worked cases of what one replica does with a given order, checked over the statements of the crates below.
+#![tactic(auto)]
+
+#[cfg(test)]
+mod shown;
+#[cfg(test)]
+mod two_partitions;
