@@ -19,3 +19,4 @@ pub mod Sizes
 pub mod SteppedSeats
 pub mod ReachedReplicas
 pub mod RunReplicas
+pub mod WorkedRun
