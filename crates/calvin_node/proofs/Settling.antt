@@ -1,17 +1,22 @@
 -- What a call of one part of a node made of it makes of the node.
-use Rattle.std.proofs.Common.{◌≡◌, ◌<◌, Bool, true, false, cond, not, List, [], ◌∷◌, length, drop, slice_index_or, Result, Ok, Err, refl, sym, ap, ◌∙◌, arith}
+use Rattle.std.proofs.Common.{◌≡◌, ℕ, suc, ◌<◌, Bool, true, false, cond, not, List, [], ◌∷◌, length, drop, slice_index_or, Result, Ok, Err, refl, sym, ap, subst, ◌∙◌, arith}
+use Rattle.std.proofs.lemmas.Bool.{false≢true}
 use Rattle.std.specs.List.{filter}
+use Rattle.std.specs.Prelude.{nat_le}
 use Rattle.calvin_types.specs.declared.fault.Fault.{Fault}
+use Rattle.calvin_types.specs.declared.fault.Fault.TheVariants.{Older}
 use Rattle.calvin_types.specs.declared.place.Place.{Place}
 use Rattle.calvin_types.specs.Orders.{Order}
 use Rattle.calvin_types.specs.Deeds.{Deed, Refuses, Does, Did}
 use Rattle.calvin_order.specs.Configs.{Config}
 use Rattle.calvin_order.specs.Sequencing.{Sequencing}
+use Rattle.calvin_app.specs.Rows.{Rows}
+use Rattle.calvin_sched.specs.Keeping.{takes_effect}
 use Rattle.calvin_sched.specs.Progress.{left}
 use Rattle.calvin_sched.specs.Scheduling.{Scheduling, is_done}
 use Rattle.calvin_node.specs.NodeStates.{NodeState, with_sequencer}
 use Rattle.calvin_node.specs.Handling.{NodeDeed, by_scheduler}
-use Rattle.calvin_node.specs.Acting.{by_sequencer, lock_by}
+use Rattle.calvin_node.specs.Acting.{by_sequencer, lock_by, snapshot_by}
 use Rattle.calvin_node.specs.declared.packet.Packet.{Packet}
 use Rattle.calvin_node.specs.Running.{Running, settled, NodeDid}
 
@@ -72,6 +77,23 @@ module _ {Args Row : Type 0} (Reply : Type 0) (c : Config) (x : NodeState Args R
   scheduled grows wide more (Ok out) (Does next given) s h = (λ i. running c (with_steps x (h.1 i) x.pending), refl)
   scheduled grows wide more (Err f) (Refuses g) s h = (h.0, unchanged s h.1, refl)
   scheduled grows wide more (Err f) (Does next given) s h = (more h.0, h.1, unchanged s h.2, refl)
+
+-- a snapshot that can be taken: it isn't, for want of memory, or it is
+module _ {Args Row : Type 0} (Reply : Type 0) (c : Config) (x : NodeState Args Row) (is : left x.scheduler x.due ≡ x.due) (e : ℕ) (newer : nat_le x.kept_epochs e ≡ true) where
+  -- the last snapshot isn't of this or a later epoch
+  older_none : (s : Scheduling Args Row) (rows : Rows Row) → snapshot_by {Reply = Reply} e x (Does s rows) ≡ Does (record x { scheduler = s; kept_epochs = suc e; kept_rows = rows }) []
+  older_none s rows = ap (λ b. cond b (Does (record x { scheduler = s; kept_epochs = suc e; kept_rows = rows }) []) (Refuses Older)) newer
+
+  pub not_taken : (f : Fault) (d : Deed (Scheduling Args Row) (Rows Row)) (s : Scheduling Args Row) → takes_effect d ≡ true → Did {Out = Rows Row} true (Err f) d x.scheduler s
+      → NodeDid {Reply = Reply} true (Err f) (snapshot_by e x d) (running c x) (running c (with_steps x s x.pending)) [] []
+  not_taken f (Refuses g) s takes h = absurd (false≢true takes)
+  not_taken f (Does next rows) s takes h = subst (λ d. NodeDid {Reply = Reply} true (Err f) d (running c x) (running c (with_steps x s x.pending)) [] []) (sym (older_none next rows)) (refl, h.1, unchanged Reply c x is s h.2, refl)
+
+  pub taken : (rows : Rows Row) (d : Deed (Scheduling Args Row) (Rows Row)) (s : Scheduling Args Row) → Did true (Ok rows) d x.scheduler s
+      → NodeDid {Reply = Reply} true (Ok tt) (snapshot_by e x d) (running c x) (running c (record (with_steps x s x.pending) { kept_epochs = suc e; kept_rows = rows })) [] []
+  taken rows (Refuses g) s h = h
+  taken rows (Does next given) s h = subst (λ d. NodeDid {Reply = Reply} true (Ok tt) d (running c x) (running c (record (with_steps x s x.pending) { kept_epochs = suc e; kept_rows = rows })) [] []) (sym (older_none next given))
+      (λ i. running c (record (with_steps x (h.1 i) x.pending) { kept_epochs = suc e; kept_rows = h.0 i }), refl)
 
 pub ended_is : (r : Result (Unit {0}) Fault) → ended r ≡ r
 ended_is (Ok out) = refl

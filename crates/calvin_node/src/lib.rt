@@ -7,6 +7,7 @@ mod execution;
 mod law;
 mod node;
 mod packet;
+mod snapshots;
 mod submissions;
 
 pub use act::Act;

@@ -1,0 +1,23 @@
+use Rattle.std.proofs.Common.{◌≡◌, ◌+◌, suc, [], false, sym, ap, subst, ◌∙◌, arith}
+use Rattle.calvin_types.specs.Deeds.{Did}
+use Rattle.calvin_sched.specs.Progress.{left}
+use Rattle.calvin_sched.specs.Standing as standing
+use Rattle.calvin_node.specs.Acting as acting
+use Rattle.calvin_node.specs.Running.{NodeDid, config_of, state_of}
+use Rattle.calvin_node.proofs.Settling.{running, with_steps, left_again, scheduled}
+use Rattle.calvin_node.proofs.node.Node.mark.Goals as goal
+
+pub returns : goal.returns
+returns g c =
+    let p = c.self.inside in
+    let x = state_of p.id p.member p.sequencer p.merge p.pending.items p.scheduler p.kept in
+    let config = config_of p.config.partitions p.config.replicas g.S.Rows.points g.S.Rows.cold p.sequencer.delay in
+    let s = c.mark.new.self.scheduling in
+    let next : c.args.epoch + 1 ≡ suc c.args.epoch = omega arith in
+    let did = subst (λ n. Did false c.mark.result (standing.mark g.S.Rows.points n p.scheduler.scheduling) p.scheduler.scheduling s) next c.mark.ensures.did in
+    record {
+      did = subst (λ v. NodeDid {Reply = g.row.A-Reply.Denot} false c.mark.result (acting.mark_end v.config c.args.epoch v.state) v (running config (record x { scheduler = s; due = left s c.mark.new.self.due })) [] []) c.self.view_is
+          (subst (λ d. NodeDid {Reply = g.row.A-Reply.Denot} false c.mark.result (acting.mark_end config c.args.epoch x) (running config x) (running config (record x { scheduler = s; due = left s d })) [] [])
+          (c.merged_epochs-epochs.ensures.undone ∙ sym (ap (λ n. n.due) c.mark.ensures.rest))
+          (scheduled g.row.A-Reply.Denot config x (left_again p.scheduler.scheduling p.scheduler.due) false false (λ h. h) c.mark.result (standing.mark g.S.Rows.points (suc c.args.epoch) p.scheduler.scheduling) s did));
+    }

@@ -1,0 +1,59 @@
+//! Snapshots of a node's rows, points of consistency, and cold rows.
+ghost use Rattle.std.specs.Prelude.{◌+◌, ◌≤◌, [], false, true, MatchBool};
+ghost use Rattle.calvin_node.specs.Acting as acting;
+ghost use Rattle.calvin_node.specs.Running.{NodeDid};
+
+use crate::node::Node;
+use calvin_app::App;
+use calvin_lock::Locks;
+use calvin_store::Rows;
+use calvin_types::{Fault, Key};
+
+impl<A: App, L: Locks + Drop, S: Rows<A::Row> + Drop> Node<A, L, S> {
+    /// Opens a point at the end of an epoch (Thomson et al. 2012, section 5): a snapshot of it can be taken while later epochs
+    /// are run. Refused with `PointTooLate` where something of a later epoch is done or a loaded snapshot has more epochs,
+    /// with `PointOpen` where a point is open, and with `NoPoints` where the keeper of rows has none. It takes no memory.
+    pub fn mark(&mut self, epoch: u64) -> Result<(), Fault>
+        ensures did { NodeDid {Reply = A.Reply} false result (acting.mark_end self.old.config epoch self.old.state) self.old self.new [] [] }
+    {
+        let _epochs = self.scheduler.merged_epochs();
+        self.scheduler.mark(epoch)
+    }
+
+    /// The row of a key goes to the cold table (section 4). Refused with `PointOpen` where a point is open, with `NoRow` where
+    /// the key has no row that isn't cold, and with `NoColdTable` where the keeper of rows has no such table; else with
+    /// `OutOfMemory` where a growth was refused.
+    pub fn cool(&mut self, key: &Key) -> Result<(), Fault>
+        ensures did { NodeDid {Reply = A.Reply} true result (acting.cool_row self.old.config key.now self.old.state) self.old self.new [] [] }
+    {
+        let _epochs = self.scheduler.merged_epochs();
+        self.scheduler.cool(key)
+    }
+
+    /// Whether the last snapshot is of an epoch or a later one.
+    fn has_kept(&self, epoch: u64) -> bool
+        ensures { MatchBool result (epoch + 1 ≤ self.now.state.kept_epochs) (self.now.state.kept_epochs ≤ epoch) }
+    {
+        match &self.kept {
+            Some((kept, _)) => epoch <= *kept,
+            None => false,
+        }
+    }
+
+    /// The rows at the end of an epoch become the durable record's snapshot (section 5: a checkpoint): those of the point that
+    /// is open there, once the epochs up to it are merged and done here; else those of now, where the node stands there.
+    /// Refused with `NotAtEnd`, with `Older` where the record has a snapshot of this epoch or a later one, else with
+    /// `OutOfMemory` where a growth was refused.
+    pub fn snapshot(&mut self, epoch: u64) -> Result<(), Fault>
+        ensures did { NodeDid {Reply = A.Reply} true result (acting.snapshot epoch self.old.state) self.old self.new [] [] }
+    {
+        let _epochs = self.scheduler.merged_epochs();
+        self.scheduler.can_take(epoch)?;
+        if self.has_kept(epoch) {
+            return Err(Fault::Older);
+        }
+        let rows = self.scheduler.take(epoch)?;
+        self.kept = Some((epoch, rows));
+        Ok(())
+    }
+}
