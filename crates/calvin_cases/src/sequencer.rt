@@ -100,20 +100,22 @@ fn what_counts_to_the_limit(rt: HostRuntime) -> Result<(), Fail> {
     Ok(())
 }
 
-/// The refusals of a request that is submitted, at once and for some closings.
-fn refusals(sequencer: &mut Sequencer<u64>, txn: Txn<u64>) -> (u8, u8) {
-    (
-        refusal(&sequencer.submit(txn)),
-        refusal(&sequencer.submit_cold(txn)),
-    )
-}
-
-/// A request at this attempt that declares no key.
-fn keyless(alloc: Global, attempt: u8) -> Result<Txn<u64>, Fault> {
-    Ok(Txn {
+/// The refusals of a request that reads these keys and is submitted at this attempt, at once and for some closings.
+fn refusals(
+    alloc: Global,
+    sequencer: &mut Sequencer<u64>,
+    reads: &[u64],
+    attempt: u8,
+) -> Result<(u8, u8), Fault> {
+    let submitted = sequencer.submit(Txn {
         attempt,
-        ..txn(alloc, &[], &[])?
-    })
+        ..txn(alloc, reads, &[])?
+    });
+    let held_back = sequencer.submit_cold(Txn {
+        attempt,
+        ..txn(alloc, reads, &[])?
+    });
+    Ok((refusal(&submitted), refusal(&held_back)))
 }
 
 #[test]
@@ -122,15 +124,14 @@ fn lesser_refusals_first(rt: HostRuntime) -> Result<(), Fail> {
     let mut empty = Sequencer::new(alloc, 1);
     let mut full = Sequencer::new(alloc, 1);
     submit_many(alloc, &mut full, 0, 4096)?;
-    for (attempt, of_keyed, of_keyless) in [(0, 32, 31), (1, 0, 31), (8, 0, 31), (9, 32, 31)] {
-        let found = refusals(&mut empty, request(alloc, 1, attempt)?);
-        assert_eq!(rt; found, (of_keyed, of_keyed), "attempt {attempt}");
-        let found = refusals(&mut empty, keyless(alloc, attempt)?);
-        assert_eq!(rt; found, (of_keyless, of_keyless), "attempt {attempt}");
-        let found = refusals(&mut full, request(alloc, 1, attempt)?);
-        assert_eq!(rt; found, (30, 30), "attempt {attempt}");
-        let found = refusals(&mut full, keyless(alloc, attempt)?);
-        assert_eq!(rt; found, (30, 30), "attempt {attempt}");
+    for (attempt, keyed, keyless) in [(0, 32, 31), (1, 0, 31), (8, 0, 31), (9, 32, 31)] {
+        assert_eq!(rt; refusals(alloc, &mut empty, &[1], attempt)?, (keyed, keyed));
+        assert_eq!(rt;
+            refusals(alloc, &mut empty, &[], attempt)?,
+            (keyless, keyless)
+        );
+        assert_eq!(rt; refusals(alloc, &mut full, &[1], attempt)?, (30, 30));
+        assert_eq!(rt; refusals(alloc, &mut full, &[], attempt)?, (30, 30));
     }
     assert_eq!(rt; (empty.queued(), empty.held_back()), (2, 2));
     Ok(())
