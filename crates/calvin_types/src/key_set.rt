@@ -278,16 +278,15 @@ fn put_from_end(keys: &mut KeyList, key: Key) -> bool
     keys.push(key);
     while i > 0 {
         let other = keys.at(i - 1);
-        if key < other {
-            keys.set(i, other);
-            i -= 1;
-        } else {
-            if key == other {
+        if other <= key {
+            if other == key {
                 return false;
             }
             keys.set(i, key);
             return true;
         }
+        keys.set(i, other);
+        i -= 1;
     }
     keys.set(0, key);
     true

@@ -13,18 +13,18 @@ loop-i-init c = record {
   below = ap (below_all c.args.key) (drop_all c.len-i.result c.args.keys.now (omega (arith, c.len-i.ensures.len)));
 }
 
-pub returns-else-lt-clause-put : goal.returns-else-lt-clause-put
-returns-else-lt-clause-put c _ =
+pub returns-then-le-clause-put : goal.returns-then-le-clause-put
+returns-then-le-clause-put c _ =
     let next : c.loop-i.i ≡ suc (c.loop-i.i - 1) = omega (arith, c.loop-i-test.true) in
     let above : key_cmp c.args.key c.at-other.result ≡ Greater = search (comparing, rules) in
     let inv = c.loop-i.invariant in
     let here = key_before c.args.keys.now c.loop-i.keys c.loop-i.i (c.loop-i.i - 1) inv.all.0 c.at-other.result next inv.within inv.all.1 c.at-other.ensures in
-    c.set-else-lt.ensures ∙ put_behind c.args.key c.args.keys.now c.loop-i.keys c.loop-i.i (c.loop-i.i - 1) inv.all.0 c.at-other.result next inv.within c.requires.rising inv.all.1 here above inv.below
+    c.set.ensures ∙ put_behind c.args.key c.args.keys.now c.loop-i.keys c.loop-i.i (c.loop-i.i - 1) inv.all.0 c.at-other.result next inv.within c.requires.rising inv.all.1 here above inv.below
 
-pub returns-else-lt-clause-longer : goal.returns-else-lt-clause-longer
-returns-else-lt-clause-longer c _ =
+pub returns-then-le-clause-longer : goal.returns-then-le-clause-longer
+returns-then-le-clause-longer c _ =
     let inv = c.loop-i.invariant in
-    one_longer c.args.keys.now c.loop-i.keys _ c.loop-i.i c.loop-i.i inv.all.0 c.args.key inv.within inv.all.1 (sym c.set-else-lt.ensures ∙ returns-else-lt-clause-put c refl)
+    one_longer c.args.keys.now c.loop-i.keys _ c.loop-i.i c.loop-i.i inv.all.0 c.args.key inv.within inv.all.1 (sym c.set.ensures ∙ returns-then-le-clause-put c refl)
 
 pub returns-then-eq-clause-there : goal.returns-then-eq-clause-there
 returns-then-eq-clause-there c _ =
@@ -42,7 +42,7 @@ loop-i-preserved c =
     let here = key_before c.args.keys.now c.loop-i.keys c.loop-i.i (c.loop-i.i - 1) inv.all.0 c.at-other.result next inv.within inv.all.1 c.at-other.ensures in
     record {
       within = omega (arith, inv.within);
-      all = (c.at-other.result, c.set.ensures ∙ key_passed c.args.keys.now c.loop-i.keys c.loop-i.i (c.loop-i.i - 1) inv.all.0 c.at-other.result next inv.within inv.all.1 here);
+      all = (c.at-other.result, c.set-in-loop-i.ensures ∙ key_passed c.args.keys.now c.loop-i.keys c.loop-i.i (c.loop-i.i - 1) inv.all.0 c.at-other.result next inv.within inv.all.1 here);
       below = one_below c.args.key c.args.keys.now c.loop-i.i (c.loop-i.i - 1) c.at-other.result next here under inv.below;
     }
 
