@@ -20,6 +20,10 @@ use calvin_types::Fault;
 use std::alloc::Global;
 use std::mem;
 
+/// The bytes that a text has room for from the start; a longer one grows. A smaller one takes no more of the memory that
+/// it asks for than it fills.
+const FIRST_ROOM: usize = MOST_BYTES / 2;
+
 /// The text of the serial run of a script.
 fn text_of<A: Settles + Copy + Drop>(
     alloc: Global,
@@ -34,7 +38,7 @@ where
     ensures only { IsOkUnless result Fault.OutOfMemory }
 {
     let mut store = Serial::new(alloc, app);
-    let mut text = Vec::new(alloc);
+    let mut text = Vec::with_capacity(alloc, FIRST_ROOM)?;
     let mut seen = View::new();
     let mut answer = Answer::Changed;
     let mut writes = Writes::new();
