@@ -22,7 +22,7 @@ use std::mem;
 
 /// The bytes that a text has room for from the start; a longer one grows. A smaller one takes no more of the memory that
 /// it asks for than it fills.
-const FIRST_ROOM: usize = MOST_BYTES / 2;
+const FIRST_ROOM: usize = MOST_BYTES;
 
 /// The text of the serial run of a script.
 fn text_of<A: Settles + Copy + Drop>(
