@@ -1,9 +1,9 @@
 //! Requests run one at a time, on one undivided map: what every other run of them has to agree with (Thomson et al.
 //! 2012, section 3: the order of requests is fixed first, and execution is equivalent to running them serially in it).
-ghost use Rattle.calvin_app.specs.declared.answer.Answer.TheVariants.{Changed};
+ghost use Rattle.calvin_app.specs.declared.answer.Answer.TheVariants.{Changed, Reply};
 ghost use Rattle.std.specs.Prelude.{◌≡◌, ◌≢◌, IfOk, OnOk, OnErr, IsOkUnless, [], IsOk};
 ghost use Rattle.std.specs.FinMap as map;
-ghost use Rattle.calvin_app.specs.Rows.{view};
+ghost use Rattle.calvin_app.specs.Rows.{view, overwritten};
 ghost use Rattle.calvin_app.specs.Serial.{nameless, answer_one, after_one, writes_on};
 
 use crate::answer::Answer;
@@ -116,12 +116,60 @@ impl<A: App> Serial<A> {
         ensures only { IsOkUnless result Fault.OutOfMemory }
         ensures succeeds { writes_on A.meaning (nameless args.now sets.now) (view self.old sets.now.reads) ≡ [] → IsOk result }
     {
-        seen.clear();
-        self.rows.look_up(&sets.reads, seen);
+        self.see(sets, seen);
         if !self.app.needs_only(args, seen, sets) {
             tell_changed(answer);
             return Ok(());
         }
+        self.run_seen(args, seen, answer, writes)
+    }
+
+    /// Runs one request as `apply_parts` does, of which the sets are those that it needs where no row is known: unless they
+    /// may depend on rows they aren't compared with those that it needs.
+    pub fn apply_first(
+        &mut self,
+        args: &A::Args,
+        sets: &Sets,
+        seen: &mut View<A::Row>,
+        answer: &mut Answer<A::Reply>,
+        writes: &mut Writes<A::Row>,
+    ) -> Result<(), Fault>
+        requires first { A.meaning.needs args.now map.empty ≡ sets.now }
+        ensures answer { OnOk result (answer.new ≡ answer_one A.meaning (nameless args.now sets.now) self.old) }
+        ensures ok { OnOk result (self.new ≡ after_one A.meaning (nameless args.now sets.now) self.old) }
+        ensures err { OnErr result (self.new ≡ self.old) }
+        ensures only { IsOkUnless result Fault.OutOfMemory }
+        ensures succeeds { writes_on A.meaning (nameless args.now sets.now) (view self.old sets.now.reads) ≡ [] → IsOk result }
+    {
+        if self.app.dependent(args) {
+            return self.apply_parts(args, sets, seen, answer, writes);
+        }
+        self.see(sets, seen);
+        self.run_seen(args, seen, answer, writes)
+    }
+
+    /// Puts the rows of the declared reads in place of those that were seen.
+    fn see(&self, sets: &Sets, seen: &mut View<A::Row>)
+        ensures { seen.new ≡ view self.now sets.now.reads }
+    {
+        seen.clear();
+        self.rows.look_up(&sets.reads, seen);
+    }
+
+    /// Runs a request on what it sees, which are rows under the keys that it needs.
+    fn run_seen(
+        &mut self,
+        args: &A::Args,
+        seen: &View<A::Row>,
+        answer: &mut Answer<A::Reply>,
+        writes: &mut Writes<A::Row>,
+    ) -> Result<(), Fault>
+        ensures answer { answer.new ≡ Reply (A.meaning.outcome args.now seen.now).0 }
+        ensures ok { OnOk result (self.new ≡ overwritten self.old (A.meaning.outcome args.now seen.now).1) }
+        ensures err { OnErr result (self.new ≡ self.old) }
+        ensures only { IsOkUnless result Fault.OutOfMemory }
+        ensures succeeds { (A.meaning.outcome args.now seen.now).1 ≡ [] → IsOk result }
+    {
         writes.clear();
         self.app.run_into(args, seen, answer, writes);
         self.rows.overwrite(writes)

@@ -1,5 +1,5 @@
 //! Requests as a script keeps them.
-ghost use Rattle.std.specs.Prelude.{◌≡◌, option_map};
+ghost use Rattle.std.specs.Prelude.{◌≡◌, false, option_map};
 ghost use Rattle.calvin_types.specs.Submitting.{has_key, is_taken};
 ghost use Rattle.calvin_script.specs.Keeping.{request_kept};
 
@@ -47,9 +47,10 @@ impl<Op: Operation> Kept<Op> {
         self.id
     }
 
-    /// Whether its sets were declared.
+    /// Whether its sets were declared. If not they are those that its operation needs where no row is known.
     pub fn is_declared(&self) -> bool
-        ensures { result ≡ self.now.is_declared }
+        ensures declared { result ≡ self.now.is_declared }
+        ensures first { result ≡ false → self.now.txn.sets ≡ Op.grammar.first_needs self.now.txn.args }
     {
         self.declared.is_some()
     }

@@ -1,13 +1,13 @@
 //! The operations of the application Stock.
-ghost use Rattle.std.specs.Prelude.{◌≡◌, ◌≤◌, IfSome, length, option_map};
+ghost use Rattle.std.specs.Prelude.{◌≡◌, option_map};
 ghost use Rattle.serde_json.specs.View.{view};
 ghost use Rattle.calvin_script.specs.StockOperations.{line, lines, order, order_of_lines};
 
 use crate::fields::{u32_of, u64_of};
 use crate::numbers::{one_number, three_numbers, two_numbers};
 use crate::operation::Operation;
-use calvin_stock::{Line, MOST_LINES, Order, StockRequest};
-use calvin_types::{Few, RequestId, Sets};
+use calvin_stock::{Line, LineList, MOST_LINES, Order, StockRequest};
+use calvin_types::{RequestId, Sets};
 use serde_json::Value;
 
 /// A line of an order: an item, and how many pieces of it.
@@ -25,15 +25,14 @@ fn line_of(value: &Value) -> Option<Line>
 
 /// The lines of a list, at most four.
 #[tactic(auto, unfolding(crate::specs::StockOperations::lines), using(crate::proofs::OrderLines::lines_begin, crate::proofs::OrderLines::lines_more, crate::proofs::OrderLines::lines_refused, crate::proofs::OrderLines::lines_end, crate::proofs::OrderLines::lines_too_many))]
-fn lines_of(value: &Value) -> Option<Few<Line>>
-    ensures lines { result ≡ lines (view value.now) }
-    ensures at_most { IfSome result (λ ls. length ls ≤ MOST_LINES) }
+fn lines_of(value: &Value) -> Option<LineList>
+    ensures { result ≡ lines (view value.now) }
 {
     let items = value.as_array()?;
     if items.len() > MOST_LINES {
         return None;
     }
-    let mut found = Few::new();
+    let mut found = LineList::new();
     for item in items {
         let line = line_of(item)?;
         found.push(line);
@@ -42,15 +41,10 @@ fn lines_of(value: &Value) -> Option<Few<Line>>
 }
 
 /// The order with these lines, where they are the lines of one.
-pub fn order_of_lines(customer: u64, number: u64, lines: &Few<Line>) -> Option<Order>
-    requires { length lines.now ≤ MOST_LINES }
+pub fn order_of_lines(customer: u64, number: u64, lines: &LineList) -> Option<Order>
     ensures { result ≡ order_of_lines customer number lines.now }
 {
-    let mut listed = [Line { item: 0, pieces: 0 }; MOST_LINES];
-    for i in 0..lines.len() {
-        listed[i] = lines.at(i);
-    }
-    Order::new(customer, number, &listed[..lines.len()]).ok()
+    Order::new(customer, number, lines.as_slice()).ok()
 }
 
 /// The order that the items behind the name of an operation spell.

@@ -5,6 +5,7 @@ ghost use Rattle.calvin_edge.specs.Devices.{ConsumesSome};
 ghost use Rattle.calvin_script.specs.Scripts.{Contents, contents};
 ghost use Rattle.calvin_script.specs.Reading.{and_then, json, script_from, Reads};
 ghost use Rattle.calvin_script.specs.Documents.{data_of};
+ghost use Rattle.calvin_serial.specs.FirstSets.{NeedsFirst};
 ghost use Rattle.calvin_serial.specs.Engine.{text_of, text_for, text_in, serial_text, HasText, HasBeginning, Refuses, IsSerialFault};
 
 use crate::scouted::push_scouted_epoch;
@@ -15,7 +16,7 @@ use calvin_edge::{MOST_BYTES, Sink, Source, read_all, write_all};
 use calvin_script::{AppName, Document, Kept, Operation, Script};
 use calvin_stock::Stock;
 use calvin_text::{Printed, push_finished};
-use calvin_tokens::{OperationTokens, usual_script};
+use calvin_tokens::{OperationTokens, Scratch, usual_script};
 use calvin_types::Fault;
 use std::alloc::Global;
 use std::mem;
@@ -34,6 +35,7 @@ fn text_of<A: Settles + Copy + Drop>(
 where
     A::Args: Operation,
     A::Reply: Printed,
+    requires { NeedsFirst A.Args.grammar A.meaning }
     ensures text { IfOk result (λ text. text_of A.meaning A.Reply.printed sets (contents script.now) ≡ Ok text.items) }
     ensures only { IsOkUnless result Fault.OutOfMemory }
 {
@@ -72,6 +74,7 @@ fn answer_for<A: Settles + Copy + Drop>(
 where
     A::Args: Operation,
     A::Reply: Printed,
+    requires { NeedsFirst A.Args.grammar A.meaning }
     ensures { Reads (λ text. text.items) result (text_for A.meaning A.Args.grammar A.Reply.printed sets (data_of document)) }
 {
     let script = document.into_script::<A::Args>(alloc)?;
@@ -79,23 +82,26 @@ where
 }
 
 /// The text for the bytes of a script for an application, where it is written as usual: it is read without its JSON as a
-/// value, and the bytes are given back before it is run. What is read stays in memory: who runs a script ends
+/// value, and the bytes and what reading needed are given back before it is run. What is read stays in memory: who runs a script ends
 /// thereafter, and to give back many small pieces one by one takes up to a thirteenth of the whole run.
 fn usual_answer<A: Settles + Copy + Drop>(
     alloc: Global,
     app: A,
     bytes: &mut Vec<u8>,
+    scratch: &mut Scratch,
     sets: UndeclaredSets,
 ) -> Option<Result<Vec<u8>, Fault>>
 where
     A::Args: OperationTokens,
     A::Reply: Printed,
+    requires { NeedsFirst A.Args.grammar A.meaning }
     ensures text { IfSome result (λ text. (script : Contents A.Args) × (script_from A.Args.grammar bytes.old.items ≡ Ok script)
         × Reads (λ t. t.items) text (text_of A.meaning A.Reply.printed sets script)) }
     ensures kept { result ≡ None → bytes.new ≡ bytes.old }
 {
-    let script = usual_script(alloc, bytes)?;
+    let script = usual_script(alloc, bytes, scratch)?;
     *bytes = Vec::new(alloc);
+    *scratch = Scratch::new(alloc);
     let text = text_of(alloc, app, &script, sets);
     mem::forget(script);
     Some(text)
@@ -106,12 +112,14 @@ where
 fn answer(alloc: Global, mut bytes: Vec<u8>, sets: UndeclaredSets) -> Result<Vec<u8>, Fault>
     ensures { Reads (λ text. text.items) result (and_then (json bytes.items) (text_in sets)) }
 {
-    if let Some(text) = usual_answer(alloc, Kv, &mut bytes, sets) {
+    let mut scratch = Scratch::new(alloc);
+    if let Some(text) = usual_answer(alloc, Kv, &mut bytes, &mut scratch, sets) {
         return text;
     }
-    if let Some(text) = usual_answer(alloc, Stock, &mut bytes, sets) {
+    if let Some(text) = usual_answer(alloc, Stock, &mut bytes, &mut scratch, sets) {
         return text;
     }
+    drop(scratch);
     let document = Document::read(alloc, &bytes)?;
     drop(bytes);
     match document.app() {

@@ -1,9 +1,10 @@
 //! The lines of a serial run.
 ghost use Rattle.std.specs.Prelude.{◌≡◌, ◌<◌, ◌++◌, OnOk, IsOkUnless, length};
-ghost use Rattle.calvin_app.specs.Serial.{nameless, answer_one, after_one};
+ghost use Rattle.calvin_app.specs.Serial.{answer_one, after_one};
 ghost use Rattle.calvin_order.specs.Configs.{merged, unwoven};
 ghost use Rattle.calvin_script.specs.Scripts.{contents, batch_at};
 ghost use Rattle.calvin_text.specs.Texts.{line};
+ghost use Rattle.calvin_serial.specs.FirstSets.{NeedsFirst};
 ghost use Rattle.calvin_serial.specs.Scouting.{RunsOn};
 
 use crate::listed::ListedBatches;
@@ -11,30 +12,7 @@ use calvin_app::{Answer, App, Serial, View, Writes};
 use calvin_order::EpochRequests;
 use calvin_script::{Kept, Operation, Script};
 use calvin_text::{Printed, push_line};
-use calvin_types::{Fault, KeySet, Place, RequestId, Sets, Txn};
-
-/// Runs one request, of which the name, the arguments and the sets are given, and adds its line.
-fn push_parts<A: App>(
-    store: &mut Serial<A>,
-    place: Place,
-    id: RequestId,
-    args: &A::Args,
-    sets: &Sets,
-    seen: &mut View<A::Row>,
-    answer: &mut Answer<A::Reply>,
-    writes: &mut Writes<A::Row>,
-    text: &mut Vec<u8>,
-) -> Result<(), Fault>
-where
-    A::Reply: Printed,
-    ensures line { OnOk result (text.new.items ≡ text.old.items ++ line A.Reply.printed place id (answer_one A.meaning (nameless args.now sets.now) store.old)) }
-    ensures rows { OnOk result (store.new ≡ after_one A.meaning (nameless args.now sets.now) store.old) }
-    ensures only { IsOkUnless result Fault.OutOfMemory }
-{
-    store.apply_parts(args, sets, seen, answer, writes)?;
-    push_line(text, place, id, answer)?;
-    Ok(())
-}
+use calvin_types::{Fault, KeySet, Place, Sets, Txn};
 
 /// Runs one request, and adds its line.
 #[tactic(auto, unfolding(calvin_app::specs::Serial::answer_on, calvin_app::specs::Serial::writes_on))]
@@ -53,12 +31,13 @@ where
     ensures rows { OnOk result (store.new ≡ after_one A.meaning txn.now store.old) }
     ensures only { IsOkUnless result Fault.OutOfMemory }
 {
-    push_parts(
-        store, place, txn.id, &txn.args, &txn.sets, seen, answer, writes, text,
-    )
+    store.apply_into(txn, seen, answer, writes)?;
+    push_line(text, place, txn.id, answer)?;
+    Ok(())
 }
 
-/// Runs one request of a script where it stands, with its sets in place of those that are there, and adds its line.
+/// Runs one request of a script where it stands, with its sets in place of those that are there, and adds its line. Sets
+/// that weren't declared are compared with those that it needs only where these may depend on rows.
 #[tactic(auto, unfolding(calvin_app::specs::Serial::answer_on, calvin_app::specs::Serial::writes_on))]
 fn push_kept<A: App>(
     store: &mut Serial<A>,
@@ -73,22 +52,19 @@ fn push_kept<A: App>(
 where
     A::Args: Operation,
     A::Reply: Printed,
+    requires first { NeedsFirst A.Args.grammar A.meaning }
     ensures line { OnOk result (text.new.items ≡ text.old.items ++ line A.Reply.printed place kept.now.txn.id (answer_one A.meaning kept.now.txn store.old)) }
     ensures rows { OnOk result (store.new ≡ after_one A.meaning kept.now.txn store.old) }
     ensures only { IsOkUnless result Fault.OutOfMemory }
 {
     kept.put_sets(sets);
-    push_parts(
-        store,
-        place,
-        kept.id(),
-        kept.args(),
-        sets,
-        seen,
-        answer,
-        writes,
-        text,
-    )
+    if kept.is_declared() {
+        store.apply_parts(kept.args(), sets, seen, answer, writes)?;
+    } else {
+        store.apply_first(kept.args(), sets, seen, answer, writes)?;
+    }
+    push_line(text, place, kept.id(), answer)?;
+    Ok(())
 }
 
 /// Runs the requests of an epoch of a script, as they stand there, and adds a line for each. One place for sets, one view,
@@ -105,6 +81,7 @@ pub(crate) fn push_epoch<A: App>(
 where
     A::Args: Operation,
     A::Reply: Printed,
+    requires first { NeedsFirst A.Args.grammar A.meaning }
     requires within { epoch < length script.now.epochs.items }
     ensures ok { OnOk result (RunsOn A.meaning A.Reply.printed (merged (unwoven script.now.partitions) (batch_at (contents script.now)) epoch)
         store.old store.new text.old.items text.new.items) }

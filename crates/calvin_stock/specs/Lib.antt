@@ -1,5 +1,7 @@
+pub mod LineList
 pub mod Lines
 pub mod Operations
+pub mod SameLines
 pub mod Stock
 pub mod StockExact
 pub mod StockLaws

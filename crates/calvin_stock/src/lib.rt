@@ -5,6 +5,7 @@ mod customers;
 mod items;
 mod keys;
 mod limits;
+mod line_list;
 mod order;
 mod placing;
 mod reply;
@@ -15,6 +16,7 @@ mod stock;
 mod totals;
 
 pub use limits::{MOST_CENTS, MOST_LINES, MOST_PIECES};
+pub use line_list::LineList;
 pub use order::{Line, Order};
 pub use reply::StockReply;
 pub use request::StockRequest;

@@ -4,7 +4,8 @@ ghost use Rattle.std.specs.List.{list_all};
 ghost use Rattle.calvin_stock.specs.Lines.{names_item, has_distinct_items, is_in_range, are_in_range, are_lines};
 
 use crate::limits::{MOST_LINES, MOST_PIECES};
-use calvin_types::{Fault, Few, MOST_KEYS};
+use crate::line_list::LineList;
+use calvin_types::Fault;
 
 /// So many pieces of the item with this number.
 #[derive(Clone, Copy, Debug, PartialEq, Eq)]
@@ -19,7 +20,7 @@ pub struct Line {
 pub struct Order {
     pub customer: u64,
     pub number: u64,
-    pub lines: Few<Line>,
+    pub lines: LineList,
     pub ghost in_range: { IsTrue (are_lines lines) },
 }
 
@@ -44,7 +45,7 @@ impl Order {
         Ok(Order {
             customer,
             number,
-            lines: few_of(lines),
+            lines: lines_of(lines),
         })
     }
 }
@@ -90,13 +91,13 @@ fn has_distinct_items(lines: &[Line]) -> bool
 }
 
 /// The same lines in a value that needs no memory of its own.
-fn few_of(lines: &[Line]) -> Few<Line>
-    requires { length lines.now ≤ MOST_KEYS }
+fn lines_of(lines: &[Line]) -> LineList
+    requires { length lines.now ≤ MOST_LINES }
     ensures { result ≡ lines.now }
 {
-    let mut few = Few::new();
+    let mut all = LineList::new();
     for line in lines {
-        few.push(*line);
+        all.push(*line);
     }
-    few
+    all
 }

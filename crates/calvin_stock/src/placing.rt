@@ -1,50 +1,28 @@
 //! How an order is placed: all of its lines, or none.
-ghost use Rattle.std.specs.Prelude.{◌≡◌, ◌^◌, ◌<◌, [], map, IsTrue};
+ghost use Rattle.std.specs.Prelude.{◌≡◌, ◌^◌, ◌<◌, [], None, Some, map, IfOk, IfErr, IsTrue};
 ghost use Rattle.calvin_stock.specs.StockRows.{customer_at};
 ghost use Rattle.calvin_stock.specs.Lines.{has_distinct_items};
 ghost use Rattle.calvin_stock.specs.Operations.{line_fault, first_fault, cost, total_of, left, taken, placed, place};
 
 use crate::keys::{customer_in, customer_key, item_in, item_key, order_key};
 use crate::limits::MOST_CENTS;
+use crate::line_list::LineList;
 use crate::order::{Line, Order};
 use crate::reply::StockReply;
 use crate::rows::{Customer, Item, Placed, StockRow};
 use calvin_app::{View, Writes};
-use calvin_types::Few;
 
-/// Why a line of this item can't be delivered, if it can't.
-fn line_fault(line: &Line, found: Option<Item>) -> Option<StockReply>
-    ensures { result ≡ line_fault line.now found }
+/// The cents of a line, below 2^96, since there are fewer than 2^32 pieces of a price below 2^64; or why it can't be
+/// delivered.
+fn cost(line: &Line, found: Option<Item>) -> Result<u128, StockReply>
+    ensures cost { IfOk result (λ cents. (line_fault line.now found ≡ None) × (cents ≡ cost line.now found)) }
+    ensures small { IfOk result (λ cents. cents < 2 ^ 96) }
+    ensures fault { IfErr result (λ fault. line_fault line.now found ≡ Some fault) }
 {
     match found {
-        None => Some(StockReply::NoItem),
-        Some(item) if item.stock < line.pieces as u64 => Some(StockReply::Short),
-        Some(_) => None,
-    }
-}
-
-/// Why the first of the lines that can't be delivered can't.
-fn first_fault(lines: &Few<Line>, view: &View<StockRow>) -> Option<StockReply>
-    ensures { result ≡ first_fault lines.now view.now }
-{
-    for i in 0..lines.len() {
-        let line = lines.at(i);
-        match line_fault(&line, item_in(view, line.item)) {
-            Some(fault) => return Some(fault),
-            None => {}
-        }
-    }
-    None
-}
-
-/// The cents of a line: below 2^96, since there are fewer than 2^32 pieces of a price below 2^64.
-fn cost(line: &Line, found: Option<Item>) -> u128
-    ensures cost { result ≡ cost line.now found }
-    ensures small { result < 2 ^ 96 }
-{
-    match found {
-        None => 0,
-        Some(item) => line.pieces as u128 * item.price as u128,
+        None => Err(StockReply::NoItem),
+        Some(item) if item.stock < line.pieces as u64 => Err(StockReply::Short),
+        Some(item) => Ok(line.pieces as u128 * item.price as u128),
     }
 }
 
@@ -61,20 +39,23 @@ fn left(line: &Line, found: Option<Item>) -> Item
     }
 }
 
-/// The cents of lines together: at most sixteen are below 2^100, so nothing is lost.
-fn total_of(lines: &Few<Line>, view: &View<StockRow>) -> u128
-    ensures { result ≡ total_of lines.now view.now }
+/// The cents of lines together, at most four of less than 2^96 each, so nothing is lost; or why the first of the lines
+/// that can't be delivered can't.
+fn total_of(lines: &LineList, view: &View<StockRow>) -> Result<u128, StockReply>
+    ensures total { IfOk result (λ total. (first_fault lines.now view.now ≡ None) × (total ≡ total_of lines.now view.now)) }
+    ensures fault { IfErr result (λ fault. first_fault lines.now view.now ≡ Some fault) }
 {
     let mut total: u128 = 0;
     for i in 0..lines.len() {
         let line = lines.at(i);
-        total += cost(&line, item_in(view, line.item));
+        let cents = cost(&line, item_in(view, line.item))?;
+        total += cents;
     }
-    total
+    Ok(total)
 }
 
 /// Adds the items as the lines leave them to writes that have none yet.
-fn add_taken(lines: &Few<Line>, view: &View<StockRow>, writes: &mut Writes<StockRow>)
+fn add_taken(lines: &LineList, view: &View<StockRow>, writes: &mut Writes<StockRow>)
     requires distinct { IsTrue (has_distinct_items lines.now) }
     requires none { writes.old ≡ [] }
     ensures { writes.new ≡ map (taken view.now) lines.now }
@@ -86,17 +67,17 @@ fn add_taken(lines: &Few<Line>, view: &View<StockRow>, writes: &mut Writes<Stock
     }
 }
 
-/// Places an order of a customer where all of its lines can be delivered.
+/// Places an order of a customer where all of its lines can be delivered, for so many cents together.
 fn placed(
     order: &Order,
     view: &View<StockRow>,
     customer: Customer,
+    total: u128,
     writes: &mut Writes<StockRow>,
 ) -> StockReply
     requires { writes.old ≡ [] }
-    ensures { (result, writes.new) ≡ placed order.now view.now customer (total_of order.now.lines view.now) }
+    ensures { (result, writes.new) ≡ placed order.now view.now customer total }
 {
-    let total = total_of(&order.lines, view);
     if total > MOST_CENTS as u128 {
         return StockReply::Limit;
     }
@@ -131,8 +112,8 @@ pub(crate) fn place(
     if view.get(&order_key(order.number)).is_some() {
         return StockReply::OrderExists;
     }
-    match first_fault(&order.lines, view) {
-        Some(fault) => fault,
-        None => placed(order, view, customer, writes),
+    match total_of(&order.lines, view) {
+        Ok(total) => placed(order, view, customer, total, writes),
+        Err(fault) => fault,
     }
 }

@@ -2,14 +2,18 @@
 ghost use Rattle.std.specs.Prelude.{◌≡◌, false, []};
 ghost use Rattle.std.specs.FinMap as finmap;
 ghost use Rattle.calvin_app.specs.Rows.{Rows};
+ghost use Rattle.calvin_types.specs.SameKeys.{same_sets};
 ghost use Rattle.calvin_stock.specs.declared.rows.StockRow.{StockRow};
 ghost use Rattle.calvin_stock.specs.Stock.{stock, is_dependent};
 
-use crate::keys::{customer_in, customer_key, item_key, last_order, order_keys, settle_keys};
+use crate::keys::{
+    add_order_keys, add_settle_keys, add_to_both, are_of_order, are_of_settlement, are_only,
+    customer_in, customer_key, is_only, item_key, last_order,
+};
 use crate::order::Order;
 use crate::rows::StockRow;
 use calvin_app::View;
-use calvin_types::{KeySet, Sets};
+use calvin_types::Sets;
 
 /// What is asked of a stock. Customers, items and orders are named by numbers, amounts of money are cents. Each looks at
 /// its refusals in the order in which they stand here, and where one is answered nothing is written.
@@ -46,9 +50,8 @@ impl StockRequest {
         match self {
             StockRequest::Settle { customer } => {
                 let last = last_order(customer_in(view, *customer));
-                let keys = settle_keys(*customer, last);
-                sets.reads = keys;
-                sets.writes = keys;
+                add_settle_keys(*customer, last, &mut sets.reads);
+                sets.writes = sets.reads;
             }
             _ => self.add_first_needs(sets),
         }
@@ -61,19 +64,40 @@ impl StockRequest {
         ensures first { sets.new ≡ stock.needs self.now finmap.empty }
         ensures fixed { is_dependent self.now ≡ false → (rows : Rows StockRow) → sets.new ≡ stock.needs self.now rows }
     {
-        let keys = match self {
-            StockRequest::AddItem { item, .. } => KeySet::of(item_key(*item)),
-            StockRequest::Restock { item, .. } => KeySet::of(item_key(*item)),
-            StockRequest::Open { customer } => KeySet::of(customer_key(*customer)),
-            StockRequest::PayIn { customer, .. } => KeySet::of(customer_key(*customer)),
-            StockRequest::Order(order) => order_keys(order),
-            StockRequest::Settle { customer } => settle_keys(*customer, None),
-            StockRequest::Balance { customer } => {
-                sets.reads = KeySet::of(customer_key(*customer));
-                return;
+        match self {
+            StockRequest::AddItem { item, .. } => add_to_both(item_key(*item), sets),
+            StockRequest::Restock { item, .. } => add_to_both(item_key(*item), sets),
+            StockRequest::Open { customer } => add_to_both(customer_key(*customer), sets),
+            StockRequest::PayIn { customer, .. } => add_to_both(customer_key(*customer), sets),
+            StockRequest::Order(order) => {
+                add_order_keys(order, &mut sets.reads);
+                sets.writes = sets.reads;
             }
-        };
-        sets.reads = keys;
-        sets.writes = keys;
+            StockRequest::Settle { customer } => {
+                add_settle_keys(*customer, None, &mut sets.reads);
+                sets.writes = sets.reads;
+            }
+            StockRequest::Balance { customer } => sets.reads.grow(customer_key(*customer)),
+        }
+    }
+
+    /// Whether these are the sets that the request needs on these rows. The sets of one key aren't made for it.
+    pub(crate) fn needs_only(&self, view: &View<StockRow>, sets: &Sets) -> bool
+        ensures { result ≡ same_sets (stock.needs self.now view.now) sets.now }
+    {
+        match self {
+            StockRequest::AddItem { item, .. } => are_only(item_key(*item), sets),
+            StockRequest::Restock { item, .. } => are_only(item_key(*item), sets),
+            StockRequest::Open { customer } => are_only(customer_key(*customer), sets),
+            StockRequest::PayIn { customer, .. } => are_only(customer_key(*customer), sets),
+            StockRequest::Order(order) => are_of_order(order, sets),
+            StockRequest::Settle { customer } => {
+                let found = customer_in(view, *customer);
+                are_of_settlement(*customer, last_order(found), sets)
+            }
+            StockRequest::Balance { customer } => {
+                is_only(customer_key(*customer), &sets.reads) && sets.writes.is_empty()
+            }
+        }
     }
 }

@@ -87,6 +87,10 @@ impl App for Stock {
         sets
     }
 
+    fn needs_only(&self, args: &StockRequest, view: &View<StockRow>, sets: &Sets) -> bool {
+        args.needs_only(view, sets)
+    }
+
     fn run(&self, args: &StockRequest, view: &View<StockRow>) -> (StockReply, Writes<StockRow>) {
         let mut writes = Writes::new();
         let reply = reply_to(args, view, &mut writes);

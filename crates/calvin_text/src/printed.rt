@@ -140,14 +140,13 @@ impl Printed for KvReply {
     }
 }
 
-/// Adds a word, a space and a number.
-fn push_amount(text: &mut Vec<u8>, word: &str, amount: u64) -> Result<(), AllocError>
-    ensures { OnOk result (text.new.items ≡ text.old.items ++ word.now ++ codes " " ++ decimal amount) }
+/// Adds a word that ends with a space, and a number.
+#[inline(always)]
+fn push_amount(text: &mut Vec<u8>, word: &[u8], amount: u64) -> Result<(), AllocError>
+    ensures { OnOk result (text.new.items ≡ text.old.items ++ word.now ++ decimal amount) }
 {
-    text.extend_from_slice(word.as_bytes())?;
-    text.push(b' ')?;
-    push_number(text, amount)?;
-    Ok(())
+    text.extend_from_slice(word)?;
+    push_number(text, amount)
 }
 
 impl Printed for StockReply {
@@ -162,11 +161,11 @@ impl Printed for StockReply {
             StockReply::NoCustomer => text.extend_from_slice(b"nocustomer"),
             StockReply::OrderExists => text.extend_from_slice(b"orderexists"),
             StockReply::Short => text.extend_from_slice(b"short"),
-            StockReply::Ordered(total) => push_amount(text, "ordered", *total),
+            StockReply::Ordered(total) => push_amount(text, b"ordered ", *total),
             StockReply::NothingOpen => text.extend_from_slice(b"nothingopen"),
             StockReply::Poor => text.extend_from_slice(b"poor"),
-            StockReply::Settled(total) => push_amount(text, "settled", *total),
-            StockReply::Cents(balance) => push_amount(text, "cents", *balance),
+            StockReply::Settled(total) => push_amount(text, b"settled ", *total),
+            StockReply::Cents(balance) => push_amount(text, b"cents ", *balance),
         }
     }
 }

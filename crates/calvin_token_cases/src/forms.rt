@@ -1,14 +1,14 @@
 //! Which forms of a script are read in the usual way.
 use calvin_app::KvRequest;
 use calvin_script::Kept;
-use calvin_tokens::{script_from, usual_script};
+use calvin_tokens::{Scratch, script_from, usual_script};
 use calvin_types::Fault;
 use std::alloc::{AllocError, Global};
 use std::test::Fail;
 
 /// Whether a script is read in the usual way.
 fn is_usual(alloc: Global, text: &str) -> bool {
-    usual_script::<KvRequest>(alloc, text.as_bytes()).is_some()
+    usual_script::<KvRequest>(alloc, text.as_bytes(), &mut Scratch::new(alloc)).is_some()
 }
 
 /// A script of one request.

@@ -3,7 +3,7 @@ use crate::scripts::{draw, script};
 use calvin_app::KvRequest;
 use calvin_script::{AppName, Epoch, GroupBatch, Kept, Script};
 use calvin_stock::StockRequest;
-use calvin_tokens::{OperationTokens, script_from, usual_script};
+use calvin_tokens::{OperationTokens, Scratch, script_from, usual_script};
 use rand_pcg::Pcg32;
 use std::alloc::Global;
 use std::process::Abort;
@@ -65,7 +65,7 @@ fn is_same<Op: OperationTokens + Eq>(one: &Script<Kept<Op>>, other: &Script<Kept
 
 /// Reads bytes both ways. Says whether the usual way was taken, and whether they are a script.
 fn compare<Op: OperationTokens + Eq>(rt: &impl Abort, alloc: Global, bytes: &[u8]) -> (bool, bool) {
-    let usual = usual_script::<Op>(alloc, bytes);
+    let usual = usual_script::<Op>(alloc, bytes, &mut Scratch::new(alloc));
     let here = script_from::<Op>(alloc, bytes);
     let there = calvin_script::script_from::<Op>(alloc, bytes);
     match (&here, &there) {

@@ -1,7 +1,7 @@
 //! Which operations of the application Stock are read in the usual way.
 use calvin_script::Kept;
 use calvin_stock::{Line, Order, StockRequest};
-use calvin_tokens::{script_from, usual_script};
+use calvin_tokens::{Scratch, script_from, usual_script};
 use calvin_types::Fault;
 use std::alloc::{AllocError, Global};
 use std::test::Fail;
@@ -16,7 +16,11 @@ fn with_operation(alloc: Global, operation: &str) -> Result<String, AllocError> 
 /// What is read of an operation, in the usual way.
 fn usual_operation(alloc: Global, operation: &str) -> Result<Option<StockRequest>, AllocError> {
     let text = with_operation(alloc, operation)?;
-    let Some(script) = usual_script::<StockRequest>(alloc, text.as_bytes()) else {
+    let Some(script) = usual_script::<StockRequest>(
+        alloc,
+        text.as_bytes(),
+        &mut Scratch::new(alloc),
+    ) else {
         return Ok(None);
     };
     let requests: &[Kept<StockRequest>] = match script.epochs.get(0) {

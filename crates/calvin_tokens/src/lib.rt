@@ -14,6 +14,7 @@ mod script;
 mod stock;
 mod tokens;
 
+pub use json::Scratch;
 pub use keys::{KeyTokens, read_key_set};
 pub use operation::OperationTokens;
 pub use script::{script_from, usual_script};

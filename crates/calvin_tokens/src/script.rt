@@ -71,17 +71,21 @@ fn read_script<Op: OperationTokens>(
 }
 
 /// The script that bytes are, for an application, where they are written as usual: then it is read without a value of
-/// the whole JSON. There is no answer for other bytes, scripts or not, nor where memory runs out.
+/// the whole JSON. There is no answer for other bytes, scripts or not, nor where memory runs out. What reading needs of
+/// memory is lent, so that who tries one application after another needs it once.
 ///
 /// As usual are members in any order, numbers in digits alone, and no set of declared keys given twice.
-pub fn usual_script<Op: OperationTokens>(alloc: Global, bytes: &[u8]) -> Option<Script<Kept<Op>>>
+pub fn usual_script<Op: OperationTokens>(
+    alloc: Global,
+    bytes: &[u8],
+    scratch: &mut Scratch,
+) -> Option<Script<Kept<Op>>>
     ensures { IfSome result (λ s. script_from Op.grammar bytes.now ≡ Ok (contents s)) }
 {
     let Ok(text) = simdutf8::compat::from_utf8(bytes) else {
         return None;
     };
-    let mut scratch = Scratch::new(alloc);
-    let Ok(mut reader) = Reader::new(text, &mut scratch) else {
+    let Ok(mut reader) = Reader::new(text, scratch) else {
         return None;
     };
     let script = read_script(alloc, &mut reader)?;
@@ -99,7 +103,7 @@ pub fn script_from<Op: OperationTokens>(
 ) -> Result<Script<Kept<Op>>, Fault>
     ensures { Reads contents result (script_from Op.grammar bytes.now) }
 {
-    match usual_script(alloc, bytes) {
+    match usual_script(alloc, bytes, &mut Scratch::new(alloc)) {
         Some(script) => Ok(script),
         None => calvin_script::script_from(alloc, bytes),
     }

@@ -1,5 +1,5 @@
 //! The operations of the application Stock.
-ghost use Rattle.std.specs.Prelude.{◌≡◌, ◌≤◌, length, IfSome};
+ghost use Rattle.std.specs.Prelude.{◌≡◌, IfSome};
 ghost use Rattle.calvin_stock.specs.declared.request.StockRequest.TheVariants.{AddItem, Restock, Open, PayIn, Order as Ordering, Settle, Balance};
 ghost use Rattle.calvin_script.specs.StockOperations.{line, lines, order};
 ghost use Rattle.calvin_tokens.specs.Spelled.{Spells, SpellsBehind};
@@ -8,8 +8,8 @@ use crate::numbers::{one_number, three_numbers, two_numbers};
 use crate::operation::OperationTokens;
 use crate::tokens::{closes_array, ends_array, is_same, opens_array, string_at, u32_of, u64_of};
 use calvin_script::order_of_lines;
-use calvin_stock::{Line, MOST_LINES, Order, StockRequest};
-use calvin_types::{Few, RequestId};
+use calvin_stock::{Line, LineList, MOST_LINES, Order, StockRequest};
+use calvin_types::RequestId;
 use json::Reader;
 
 /// A line of an order: an item, and how many pieces of it.
@@ -25,12 +25,11 @@ fn line_at(reader: &mut Reader<'_>) -> Option<Line>
 }
 
 /// The lines that the next tokens list, at most four.
-fn lines_at(reader: &mut Reader<'_>) -> Option<Few<Line>>
-    ensures lines { IfSome result (λ ls. Spells lines 2 reader.old ls reader.new) }
-    ensures at_most { IfSome result (λ ls. length ls ≤ MOST_LINES) }
+fn lines_at(reader: &mut Reader<'_>) -> Option<LineList>
+    ensures { IfSome result (λ ls. Spells lines 2 reader.old ls reader.new) }
 {
     opens_array(reader)?;
-    let mut found = Few::new();
+    let mut found = LineList::new();
     'lines: while !ends_array(reader) {
         if found.len() == MOST_LINES {
             return None;
@@ -41,7 +40,9 @@ fn lines_at(reader: &mut Reader<'_>) -> Option<Few<Line>>
     Some(found)
 }
 
-/// The order that the items behind the name of an operation spell.
+/// The order that the items behind the name of an operation spell. It stands apart, so that what reads other operations
+/// stays small enough to be put in its caller.
+#[inline(never)]
 #[tactic(auto, using(crate::proofs::OrderTurns::order_spelled))]
 fn order_at(reader: &mut Reader<'_>) -> Option<Order>
     ensures { IfSome result (λ o. SpellsBehind order 2 reader.old o reader.new) }
@@ -110,30 +111,31 @@ fn balance_of(customer: u64) -> StockRequest
 }
 
 impl OperationTokens for StockRequest {
+    // The names are tried as often as they may be expected.
     fn read_tokens(&mut self, reader: &mut Reader<'_>) -> Option<()> {
         opens_array(reader)?;
         let name = string_at(reader)?;
-        if is_same(name, "additem") {
-            let (item, pieces, price) = three_numbers(reader)?;
-            *self = item_of(item, pieces, price);
-        } else if is_same(name, "restock") {
-            let (item, pieces) = two_numbers(reader)?;
-            *self = restock_of(item, pieces);
-        } else if is_same(name, "open") {
-            let customer = one_number(reader)?;
-            *self = customer_of(customer);
+        if is_same(name, "order") {
+            let order = order_at(reader)?;
+            *self = placing_of(order);
         } else if is_same(name, "payin") {
             let (customer, cents) = two_numbers(reader)?;
             *self = payment_of(customer, cents);
-        } else if is_same(name, "order") {
-            let order = order_at(reader)?;
-            *self = placing_of(order);
         } else if is_same(name, "settle") {
             let customer = one_number(reader)?;
             *self = settlement_of(customer);
+        } else if is_same(name, "restock") {
+            let (item, pieces) = two_numbers(reader)?;
+            *self = restock_of(item, pieces);
         } else if is_same(name, "balance") {
             let customer = one_number(reader)?;
             *self = balance_of(customer);
+        } else if is_same(name, "additem") {
+            let (item, pieces, price) = three_numbers(reader)?;
+            *self = item_of(item, pieces, price);
+        } else if is_same(name, "open") {
+            let customer = one_number(reader)?;
+            *self = customer_of(customer);
         } else {
             return None;
         }

@@ -1,4 +1,4 @@
-use Rattle.std.proofs.Common.{ap, ◌∙◌, rules}
+use Rattle.std.proofs.Common.{ap, ◌∙◌, rules, arith}
 use Rattle.calvin_types.specs.Keys.{has}
 use Rattle.calvin_app.specs.Writing.{keys_of}
 use Rattle.calvin_stock.specs.declared.rows.StockRow.TheVariants as row
@@ -10,7 +10,7 @@ pub push-requires : goal.push-requires
 push-requires c = (
   search rules,
   (
-    taken_room c.args.view.now c.args.lines.now c.loop-i.i c.at-line.result c.loop-i.writes c.at-line.ensures c.loop-i.invariant c.len-i-end.ensures.at_most,
+    taken_room c.args.view.now c.args.lines.now c.loop-i.i c.at-line.result c.loop-i.writes c.at-line.ensures c.loop-i.invariant (omega (arith, c.len-i-end.ensures.at_most)),
     (λ j. has (keys_of (c.loop-i.invariant j)) (c.item_key.ensures j))
         ∙ untaken c.args.view.now c.args.lines.now c.loop-i.i c.at-line.result c.requires.distinct c.at-line.ensures,
   ),

@@ -25,8 +25,8 @@ lines-preserved c =
       few = few;
     }
 
-pub returns-clause-lines : goal.returns-clause-lines
-returns-clause-lines c =
+pub returns : goal.returns
+returns c =
     let closed : c.lines.reader ≡ Token.end_array ∷ c.ends_array.new.reader = c.ends_array.ensures.ended c.lines-test.false in
     let all = list_spelled line 1 c.opens_array.new.reader c.ends_array.new.reader c.lines.found
     (each_done line 1 c.opens_array.new.reader c.lines.reader c.ends_array.new.reader c.lines.found c.lines.invariant.onward closed) in

@@ -1,7 +1,7 @@
 use Rattle.std.proofs.Common.{◌≡◌, ◌≤◌, [], drop, length}
 use Rattle.calvin_types.specs.Keys.{insert_all}
 use Rattle.calvin_stock.specs.Stock.{item_keys}
-use Rattle.calvin_stock.proofs.keys.order_keys.Given as goal
+use Rattle.calvin_stock.proofs.keys.add_order_keys.Given as goal
 
 -- the items of the lines so far are in
 abbrev pub invariant-loop-i : goal.invariant-loop-i

@@ -4,7 +4,7 @@ use Rattle.calvin_types.proofs.Risings.{length-grows_by}
 use Rattle.calvin_stock.specs.Stock.{item_keys}
 use Rattle.calvin_stock.specs.StockLaws.{at_most_four}
 use Rattle.calvin_stock.proofs.Lines.{keys_at, keys_end}
-use Rattle.calvin_stock.proofs.keys.order_keys.Goals as goal
+use Rattle.calvin_stock.proofs.keys.add_order_keys.Goals as goal
 
 pub loop-i-preserved : goal.loop-i-preserved
 loop-i-preserved c =
