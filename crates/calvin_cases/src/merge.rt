@@ -174,6 +174,26 @@ fn several_epochs(rt: HostRuntime) -> Result<(), Fail> {
     Ok(())
 }
 
+/// No epoch is left, though one is held.
+fn is_spent(rt: &impl Abort, merge: &mut Merge<u32>) {
+    assert_eq!(rt; merge.next(), None);
+    assert_eq!(rt; merge.pass_epoch(), Err(Fault::NotComplete));
+}
+
+#[test]
+fn past_the_last_epoch(rt: HostRuntime) -> Result<(), Fail> {
+    let alloc = rt.alloc();
+    let config = Config::new(1, 1)?;
+    let mut last = Merge::from_epoch(alloc, &config, Some(u64::MAX));
+    assert_eq!(rt; hold(alloc, &mut last, u64::MAX, 0, &[1])?, true);
+    gives(&rt, &mut last, u64::MAX, &[1])?;
+    is_spent(&rt, &mut last);
+    let mut spent = Merge::from_epoch(alloc, &config, None);
+    assert_eq!(rt; hold(alloc, &mut spent, u64::MAX, 0, &[1])?, true);
+    is_spent(&rt, &mut spent);
+    Ok(())
+}
+
 #[test]
 fn reserved(rt: HostRuntime) -> Result<(), Fail> {
     let alloc = rt.alloc();

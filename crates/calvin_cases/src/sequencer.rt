@@ -213,7 +213,7 @@ fn cold_requests(rt: HostRuntime) -> Result<(), Fail> {
 #[test]
 fn refused_closing_counts_for_none(rt: HostRuntime) -> Result<(), Fail> {
     let alloc = rt.alloc();
-    let mut sequencer = Sequencer::from_epoch(alloc, 2, MOST_EPOCHS - 1);
+    let mut sequencer = Sequencer::from_epoch(alloc, 2, Some(MOST_EPOCHS - 1));
     sequencer.submit_cold(request(alloc, 1, 1)?)?;
     closes(&rt, &mut sequencer, MOST_EPOCHS - 1, &[])?;
     for _i in 0..3 {
@@ -226,7 +226,7 @@ fn refused_closing_counts_for_none(rt: HostRuntime) -> Result<(), Fail> {
 #[test]
 fn epochs_that_are_passed(rt: HostRuntime) -> Result<(), Fail> {
     let alloc = rt.alloc();
-    let mut sequencer: Sequencer<u64> = Sequencer::from_epoch(alloc, 0, 3);
+    let mut sequencer: Sequencer<u64> = Sequencer::from_epoch(alloc, 0, Some(3));
     assert_eq!(rt; sequencer.next_epoch(), Some(3));
     for (decided, next) in [(5, 3), (4, 3), (2, 3), (3, 6), (3, 6)] {
         assert_eq!(rt; sequencer.decided(decided, &batch(alloc, &[])?), Ok(()));
@@ -235,6 +235,13 @@ fn epochs_that_are_passed(rt: HostRuntime) -> Result<(), Fail> {
     closes(&rt, &mut sequencer, 6, &[])?;
     assert_eq!(rt; sequencer.closed(5).is_none(), true);
     Ok(())
+}
+
+#[test]
+fn past_the_last_epoch(rt: HostRuntime) {
+    let mut spent: Sequencer<u64> = Sequencer::from_epoch(rt.alloc(), 0, None);
+    assert_eq!(rt; spent.next_epoch(), None);
+    assert_eq!(rt; refusal(&spent.close()), 33);
 }
 
 #[test]

@@ -1,6 +1,7 @@
 //! The roles of one replica, with exact ballots and batches, and each call once with ample memory.
-use calvin_synod::{Acceptor, Learner, Message, Proposer, Recorded, Vote};
-use calvin_types::{Ballot, Config, Fault, Slot};
+use crate::keys::refusal;
+use calvin_synod::{Acceptor, Learner, Member, Message, Proposer, Recorded, Vote};
+use calvin_types::{Ballot, Batch, Config, Fault, Slot};
 use std::alloc::Global;
 use std::process::Abort;
 use std::test::Fail;
@@ -269,6 +270,46 @@ fn reserved(rt: HostRuntime) -> Result<(), Fail> {
         let slot = Slot { epoch, group: 0 };
         agrees(&rt, &mut proposer, &mut acceptor, &mut learner, slot)?;
     }
+    Ok(())
+}
+
+/// Replica 2 of three, which proposed for the slot, promised its own ballot, and counted the vote of replica 0 at it.
+fn begun(alloc: Global, config: &Config, ballot: Ballot) -> Result<Member<u64>, Fault> {
+    let mut member = Member::new(alloc, config, 2);
+    let batch = Batch::new(alloc, Vec::new(alloc))?;
+    member.propose(SLOT, batch.copy()?)?;
+    member.take(2, Message::Prepare { slot: SLOT, ballot })?;
+    member.take(
+        0,
+        Message::Accepted {
+            slot: SLOT,
+            ballot,
+            batch,
+        },
+    )?;
+    Ok(member)
+}
+
+/// A replica that is opened from its record goes on with its promise and above its round, and has counted nothing.
+#[test]
+fn opened_from_a_record(rt: HostRuntime) -> Result<(), Fail> {
+    let config = Config::new(1, 3)?;
+    let ballot = at(1, 2);
+    let member = begun(rt.alloc(), &config, ballot)?;
+    assert_eq!(rt; told(member.completes(0, SLOT, ballot)), Err(22));
+    assert_eq!(rt; told(member.completes(1, SLOT, ballot)), Ok(true));
+    let mut opened = Member::from_record(rt.alloc(), &config, 2, member.into_record());
+    assert_eq!(rt; told(opened.completes(0, SLOT, ballot)), Ok(false));
+    assert_eq!(rt;
+        opened.recorded(SLOT).map(|recorded| recorded.promise),
+        Some(ballot)
+    );
+    let refused = Message::Refused {
+        slot: SLOT,
+        ballot,
+        promise: ballot,
+    };
+    assert_eq!(rt; refusal(&opened.take(0, refused)), 21);
     Ok(())
 }
 

@@ -38,7 +38,7 @@ pub record History (Args : Type 0) : Type 0 where
 
 pub record IsHistory {Args : Type 0} (next count : ℕ) (s : Sequencing Args) : Type 0 where
   pub next_kept : next ≡ next_epoch s
-  pub opens : s.opening < 2 ^ 64
+  pub opens : s.opening ≤ 2 ^ 64
   -- each closed epoch has one batch
   pub once : IsDistinct nat_eq (map (λ c. c.0) s.closed)
   -- no later epoch is closed

@@ -15,7 +15,8 @@ use std::marker::Model;
 /// in the order in which they were told.
 #[derive(Drop)]
 pub struct History<Args> {
-    opening: u64,
+    // none where no epoch is left from the beginning
+    opening: Option<u64>,
     // the least epoch from the opening one on that is neither closed nor decided: none where all are
     next: Option<u64>,
     closed: IndexMap<u64, Batch<Args>>,
@@ -37,19 +38,19 @@ impl<Args> Model for History<Args> {
 
     ghost coded = { Prim.hlevel (codes, code) };
 
-    ghost view = { λ e. record { state = keeping.history_of e.opening e.closed.entries e.decided.keys; closed_room = maps.spare e.closed; decided_room = sets.spare e.decided } };
+    ghost view = { λ e. record { state = keeping.history_of (unwrap_or e.opening (2 ^ 64)) e.closed.entries e.decided.keys; closed_room = maps.spare e.closed; decided_room = sets.spare e.decided } };
 
-    ghost invariant = { λ e. keeping.IsHistory (unwrap_or e.next (2 ^ 64)) e.undecided (keeping.history_of e.opening e.closed.entries e.decided.keys) };
+    ghost invariant = { λ e. keeping.IsHistory (unwrap_or e.next (2 ^ 64)) e.undecided (keeping.history_of (unwrap_or e.opening (2 ^ 64)) e.closed.entries e.decided.keys) };
 }
 
 impl<Args: Copy> History<Args> {
-    /// None is closed or decided.
-    pub fn new(alloc: Global, opening: u64) -> History<Args>
-        ensures { result.state ≡ sequencing_from opening }
+    /// None is closed or decided. The first epoch is the opening one: none where all epochs are spent already.
+    pub fn new(alloc: Global, opening: Option<u64>) -> History<Args>
+        ensures { result.state ≡ sequencing_from (unwrap_or opening (2 ^ 64)) }
     {
         History {
             opening,
-            next: Some(opening),
+            next: opening,
             closed: IndexMap::new(alloc),
             decided: IndexSet::new(alloc),
             undecided: 0,

@@ -1,9 +1,10 @@
 //! The merge of one node.
-ghost use Rattle.std.specs.Prelude.{◌≡◌, ◌^◌, ◌<◌, ◌≤◌, ◌↔◌, ◌⊎◌, suc, length, max, is_none, IfOk, IfErr, IsOk, IsNone, IsErrOf, OnOk, OnErr, IsOkUnless, MatchOption};
-ghost use Rattle.std.specs.Option.{option_copied};
+ghost use Rattle.std.specs.Prelude.{◌≡◌, ◌^◌, ◌<◌, ◌≤◌, ◌↔◌, ◌⊎◌, suc, length, max, is_none, IfOk, IfErr, IsOk, IsSome, IsNone, IsErrOf, OnOk, OnErr, IsOkUnless, MatchOption};
+ghost use Rattle.std.specs.Option.{option_copied, unwrap_or};
 ghost use Rattle.std.specs.FinMap as map;
 ghost use Rattle.calvin_types.specs.Orders.{Rises};
 ghost use Rattle.calvin_order.specs.Configs.{merged, unwoven, OrdersRise};
+ghost use Rattle.calvin_order.specs.Merged.{joined};
 ghost use Rattle.calvin_order.specs.Merging.{held_by, with_batch, without_epoch, IsComplete, IsReady};
 
 use crate::held::Held;
@@ -44,17 +45,18 @@ impl<Args: Copy> Merge<Args> {
     pub fn new(alloc: Global, config: &Config) -> Merge<Args>
         ensures { result ≡ record { partitions = config.now.partitions; next = 0; held = map.empty; room = 0; ready = 0 } }
     {
-        Merge::from_epoch(alloc, config, 0)
+        Merge::from_epoch(alloc, config, Some(0))
     }
 
-    /// A merge that goes on after what was restored: nothing is held, and `first` is the next epoch.
-    pub fn from_epoch(alloc: Global, config: &Config, first: u64) -> Merge<Args>
-        ensures { result ≡ record { partitions = config.now.partitions; next = first; held = map.empty; room = 0; ready = 0 } }
+    /// A merge that goes on after what was restored: nothing is held, and `first` is the next epoch. No epoch is left
+    /// where it is none, as after epoch 2^64 - 1.
+    pub fn from_epoch(alloc: Global, config: &Config, first: Option<u64>) -> Merge<Args>
+        ensures { result ≡ record { partitions = config.now.partitions; next = unwrap_or first (2 ^ 64); held = map.empty; room = 0; ready = 0 } }
     {
         Merge {
             alloc,
             partitions: config.partitions,
-            next: Some(first),
+            next: first,
             held: Held::new(alloc),
             ready: Vec::new(alloc),
         }
@@ -99,7 +101,8 @@ impl<Args: Copy> Merge<Args> {
 
     /// The epoch that is taken next. There is none once epoch 2^64 - 1 was taken.
     pub fn next(&self) -> Option<u64>
-        ensures { MatchOption result (self.now.next ≡ 2 ^ 64) (λ epoch. epoch ≡ self.now.next) }
+        ensures next { MatchOption result (self.now.next ≡ 2 ^ 64) (λ epoch. epoch ≡ self.now.next) }
+        ensures complete { IsComplete self.now → IsSome result }
     {
         self.next
     }
@@ -155,6 +158,26 @@ impl<Args: Copy> Merge<Args> {
         self.held.append_all(epoch, self.partitions, &mut requests);
         self.next = epoch.checked_add(1);
         Ok(requests)
+    }
+
+    /// The requests of the next epoch as `take_epoch` gives them, for a caller who goes on with `pass_epoch` once it has
+    /// found room for them: nothing is taken. Refused as `take_epoch` is, and with `OutOfMemory` only where there is a
+    /// request.
+    pub fn next_requests(&self) -> Result<Vec<(Place, Txn<Args>)>, Fault>
+        ensures merged { IfOk result (λ v. v.items ≡ merged (unwoven self.now.partitions) (held_by self.now) self.now.next) }
+        ensures complete { OnOk result (IsComplete self.now) }
+        ensures not_complete { IsErrOf result Fault.NotComplete ↔ ¬ IsComplete self.now }
+        ensures only { IfErr result (λ fault. (fault ≡ Fault.NotComplete) ⊎ ((fault ≡ Fault.OutOfMemory) × (0 < length (joined (held_by self.now) self.now.next self.now.partitions)))) }
+    {
+        match self.next {
+            Some(next) if self.held.has_all(next, self.partitions) => {
+                let mut requests = Vec::new(self.alloc);
+                requests.reserve(self.held.count(next, self.partitions))?;
+                self.held.append_all(next, self.partitions, &mut requests);
+                Ok(requests)
+            }
+            _ => Err(Fault::NotComplete),
+        }
     }
 
     /// Makes room for what is held for the next epoch, so that `take_epoch`, made next, isn't refused with

@@ -1,6 +1,6 @@
 //! The sequencer of one node.
 ghost use Rattle.std.specs.Prelude.{◌≡◌, ℕ, ◌^◌, ◌<◌, ◌≤◌, true, false, not, length, IfOk, OnOk, OnErr, IsOk, IsOkUnless, MatchOption};
-ghost use Rattle.std.specs.Option.{option_copied};
+ghost use Rattle.std.specs.Option.{option_copied, unwrap_or};
 ghost use Rattle.calvin_types.specs.declared.limits.TheConstants.{MOST_EPOCHS, MOST_REQUESTS, MOST_UNDECIDED};
 ghost use Rattle.calvin_types.specs.Deeds.{Does, Did};
 ghost use Rattle.calvin_order.specs.Keeping.{deed_of, can_submit, can_submit_cold, can_close, can_decide};
@@ -60,13 +60,14 @@ impl<Args: Copy> Sequencer<Args> {
         ensures sequencing { result.sequencing ≡ sequencing.sequencing_from 0 }
         ensures delay { result.delay ≡ delay }
     {
-        Sequencer::from_epoch(alloc, delay, 0)
+        Sequencer::from_epoch(alloc, delay, Some(0))
     }
 
     /// A sequencer that goes on after what was restored: nothing is queued, held back, closed or decided, and `first` is
-    /// next. A request that may touch cold rows is held back for `delay` closings.
-    pub fn from_epoch(alloc: Global, delay: u8, first: u64) -> Sequencer<Args>
-        ensures sequencing { result.sequencing ≡ sequencing.sequencing_from first }
+    /// next. No epoch is left where it is none, as after epoch 2^64 - 1. A request that may touch cold rows is held back
+    /// for `delay` closings.
+    pub fn from_epoch(alloc: Global, delay: u8, first: Option<u64>) -> Sequencer<Args>
+        ensures sequencing { result.sequencing ≡ sequencing.sequencing_from (unwrap_or first (2 ^ 64)) }
         ensures delay { result.delay ≡ delay }
     {
         Sequencer {
@@ -77,6 +78,13 @@ impl<Args: Copy> Sequencer<Args> {
             history: History::new(alloc, first),
             ready: None,
         }
+    }
+
+    /// After how many closings a request that is held back joins the queue.
+    pub fn delay(&self) -> u8
+        ensures { result ≡ self.now.delay }
+    {
+        self.delay
     }
 
     /// The least epoch, from the first one on, that is neither closed here nor known as decided. There is none where all
@@ -117,8 +125,8 @@ impl<Args: Copy> Sequencer<Args> {
         self.history.undecided() + self.queue.len() + self.held_back.len()
     }
 
-    /// Refused where a submission is refused for another cause than memory.
-    fn check(&self, txn: &Txn<Args>) -> Result<(), Fault>
+    /// Refuses where `submit` and `submit_cold` refuse a request for another cause than memory.
+    pub fn check_submit(&self, txn: &Txn<Args>) -> Result<(), Fault>
         ensures deed { (next : sequencing.Sequencing Args) → sequencing.submit_to txn.now self.now.sequencing next ≡ deed_of result next }
         ensures few { OnOk result (sequencing.load self.now.sequencing < MOST_UNDECIDED) }
     {
@@ -154,7 +162,7 @@ impl<Args: Copy> Sequencer<Args> {
         ensures did { Did (not (can_submit self.old)) result (sequencing.submit txn self.old.sequencing) self.old.sequencing self.new.sequencing }
         ensures delay { self.new.delay ≡ self.old.delay }
     {
-        self.check(&txn)?;
+        self.check_submit(&txn)?;
         self.reserve_submit()?;
         self.queue.push_back_reserved(txn);
         self.ready = None;
@@ -180,7 +188,7 @@ impl<Args: Copy> Sequencer<Args> {
         ensures did { Did (not (can_submit_cold self.old)) result (sequencing.submit_cold self.old.delay txn self.old.sequencing) self.old.sequencing self.new.sequencing }
         ensures delay { self.new.delay ≡ self.old.delay }
     {
-        self.check(&txn)?;
+        self.check_submit(&txn)?;
         self.reserve_submit_cold()?;
         let since = self.history.closings();
         self.held_back

@@ -1,6 +1,7 @@
 -- How what a replica is asked for ends, by the deed that its case states. The notion is of this project: a refusal changes
 -- nothing, and want of memory comes only where something grows.
 --     MemberState B      one replica of a group: the group's size, its number, and its data
+--     RecordState B      what of a replica outlives a restart: its promises and votes, and the greatest round used
 --     IsMember      its roles are those of that size and number
 --     letters_of mail      what is sent, as a deed has it
 --     Sends grows result deed      what is sent by a deed that takes effect, else its refusal; or memory runs out, where something grows
@@ -12,12 +13,17 @@ use Rattle.calvin_types.specs.declared.place.Slot.{Slot}
 use Rattle.calvin_synod.specs.declared.mail.Mail.{Mail}
 use Rattle.calvin_synod.specs.declared.mail.Mail.TheVariants as mail
 use Rattle.calvin_synod.specs.Cases.{Replica, Letters, Silent, ToOne, ToAll, Deed, Refuses, Does}
+use Rattle.calvin_synod.specs.Roles.{Records}
 use Rattle.calvin_synod.specs.States.{ProposerState, LearnerState}
 
 pub record MemberState (B : Type 0) : Type 0 where
   pub size : ℕ
   pub me : ℕ
   pub replica : Replica B
+
+pub record RecordState (B : Type 0) : Type 0 where
+  pub acceptor : Records B
+  pub used : ℕ
 
 pub record IsMember {B : Type 0} (size : ℕ) (me : ℕ) (proposer : ProposerState B) (learner : LearnerState) : Type 0 where
   pub proposer_of : proposer.replicas ≡ size

@@ -16,7 +16,7 @@ use Rattle.calvin_synod.specs.declared.message.Message.TheVariants.{Prepare, Pro
 use Rattle.calvin_synod.specs.Codes.{coded_ballot, coded_proposal, coded_vote, coded_recorded, coded_attempt}
 use Rattle.calvin_synod.specs.Roles.{Records, Proposing, Learning, proposal_cmp}
 use Rattle.calvin_synod.specs.Cases.{Replica}
-use Rattle.calvin_synod.specs.Deeds.{MemberState}
+use Rattle.calvin_synod.specs.Deeds.{MemberState, RecordState}
 
 abbrev pub coded_batch : {Args : Type 0} → Coded Args → Coded (List (Txn Args))
 coded_batch args = coded_list (coded_txn args)
@@ -67,3 +67,6 @@ module _ {B : Type 0} (batch : Coded B) where
   abbrev pub coded_member : Coded (MemberState B)
   coded_member = code_by ((ℕ × ℕ) × Replica B) (coded× (coded× coded_ℕ coded_ℕ) coded_replica)
       (λ m. ((m.size, m.me), m.replica)) (λ p. record { size = p.0.0; me = p.0.1; replica = p.1 }) (λ _. refl)
+
+  abbrev pub coded_record : Coded (RecordState B)
+  coded_record = code_by (Records B × ℕ) (coded× (code coded_slot (coded_recorded batch)) coded_ℕ) (λ r. (r.acceptor, r.used)) (λ p. record { acceptor = p.0; used = p.1 }) (λ _. refl)

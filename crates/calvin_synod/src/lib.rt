@@ -12,6 +12,7 @@ mod member;
 mod message;
 mod proposer;
 mod quorum;
+mod stable;
 mod tallies;
 mod vote;
 
@@ -21,4 +22,5 @@ pub use mail::{Given, Mail};
 pub use member::Member;
 pub use message::Message;
 pub use proposer::Proposer;
+pub use stable::SynodRecord;
 pub use vote::{Recorded, Vote};

@@ -1,5 +1,5 @@
 //! One replica of a group, with the three roles of the synod.
-ghost use Rattle.std.specs.Prelude.{◌≡◌, ℕ, List, Ok, None, true, false};
+ghost use Rattle.std.specs.Prelude.{◌≡◌, ◌↔◌, ℕ, List, Ok, None, true, false, IfOk, IsErrOf, IsOkUnless};
 ghost use Rattle.std.specs.Option.{option_copied};
 ghost use Rattle.std.specs.FinMap as map;
 ghost use Rattle.calvin_types.specs.declared.txn.Txn.{Txn};
@@ -13,6 +13,7 @@ use crate::learner::Learner;
 use crate::mail::{Given, Mail};
 use crate::message::Message;
 use crate::proposer::Proposer;
+use crate::stable::SynodRecord;
 use crate::vote::{Recorded, Vote};
 use calvin_types::{Ballot, Batch, Config, Fault, Slot};
 use std::alloc::Global;
@@ -58,6 +59,37 @@ impl<Args: Copy> Member<Args> {
             acceptor: Acceptor::new(alloc),
             proposer: Proposer::new(alloc, config, replica, 0),
             learner: Learner::new(alloc, config),
+        }
+    }
+
+    /// A replica that is opened from what outlived a restart: it has these promises and votes, and has used rounds up to
+    /// the greatest one that was. Nothing is proposed or counted.
+    pub fn from_record(
+        alloc: Global,
+        config: &Config,
+        replica: u8,
+        kept: SynodRecord<Args>,
+    ) -> Member<Args>
+        ensures { result ≡ record { size = config.now.replicas; me = replica; replica = cases.replica_from kept.acceptor kept.used } }
+    {
+        Member {
+            alloc,
+            config: *config,
+            replica,
+            acceptor: kept.acceptor,
+            proposer: Proposer::new(alloc, config, replica, kept.used),
+            learner: Learner::new(alloc, config),
+        }
+    }
+
+    /// What outlives a restart: the promises, the votes and the greatest round used.
+    pub fn into_record(self) -> SynodRecord<Args>
+        ensures { result ≡ record { acceptor = self.replica.acceptor; used = self.replica.proposer.used } }
+    {
+        let used = self.proposer.greatest();
+        SynodRecord {
+            acceptor: self.acceptor,
+            used,
         }
     }
 
@@ -223,8 +255,18 @@ impl<Args: Copy> Member<Args> {
     ) -> Result<Mail<Batch<Args>>, Fault>
         ensures { (batch : List (Txn Args)) → Sends true result (cases.accepted self.now.size from self.now.replica slot ballot batch) }
     {
-        self.learner.completes(from, slot, ballot)?;
+        self.completes(from, slot, ballot)?;
         Ok(Mail::Nothing)
+    }
+
+    /// Whether the learner gives the slot's batch with a vote of this replica for this slot and ballot, taken next: there is
+    /// a majority with it. Refused with `Known` where that vote is counted, or the slot's batch was given, as `take` is.
+    pub fn completes(&self, from: u8, slot: Slot, ballot: Ballot) -> Result<bool, Fault>
+        ensures completes { IfOk result (λ b. b ≡ roles.completes self.now.size self.now.replica.learner slot ballot) }
+        ensures known { IsErrOf result Fault.Known ↔ (roles.knows self.now.replica.learner from slot ballot ≡ true) }
+        ensures only { IsOkUnless result Fault.Known }
+    {
+        self.learner.completes(from, slot, ballot)
     }
 
     /// What a message makes of the replica, and the batch that its learner gives for a slot, if any. Refused with the

@@ -1,6 +1,6 @@
 //! What the replicas of a group tell one another.
 ghost use Rattle.std.specs.Prelude.{◌≡◌, false, IfOk, IsOk, IsOkUnless};
-ghost use Rattle.calvin_synod.specs.Cases.{message_grows};
+ghost use Rattle.calvin_synod.specs.Cases.{message_grows, slot_of};
 
 use crate::vote::Vote;
 use calvin_types::{Ballot, Batch, Fault, Slot};
@@ -40,6 +40,19 @@ pub enum Message<B> {
 }
 
 impl<Args: Copy> Message<Batch<Args>> {
+    /// The slot that it is about.
+    pub fn slot(&self) -> Slot
+        ensures { result ≡ slot_of self.now }
+    {
+        match self {
+            Message::Prepare { slot, .. }
+            | Message::Promise { slot, .. }
+            | Message::Accept { slot, .. }
+            | Message::Refused { slot, .. }
+            | Message::Accepted { slot, .. } => *slot,
+        }
+    }
+
     /// A copy, whose batch shares the memory. Refused with `OutOfMemory` where the batch can have no more owners.
     pub fn copy(&self) -> Result<Message<Batch<Args>>, Fault>
         ensures ok { IfOk result (λ m. m ≡ self.now) }

@@ -24,7 +24,7 @@ invariant_of-self g c =
     let joined = subst (λ n. Joined i.delay n i.queue.items c.join_ripe.new.queue.items c.push_back_reserved.new.self.items c.join_ripe.new.held.items) c.closings-since.ensures
     (record { queue = c.join_ripe.ensures.queue; held = c.join_ripe.ensures.held; in_turn = c.join_ripe.ensures.in_turn }) in (
       cold_sequenced i.history.state i.queue.items c.join_ripe.new.queue.items i.held_back.items c.push_back_reserved.new.self.items c.join_ripe.new.held.items (record { txn = c.args.txn; since = c.closings-since.result }) i.delay
-          c.closings-since.ensures c.push_back_reserved.ensures.items joined (subst (λ s. load s < MOST_UNDECIDED) (sym old) c.in_ok-check.ensures.few),
+          c.closings-since.ensures c.push_back_reserved.ensures.items joined (subst (λ s. load s < MOST_UNDECIDED) (sym old) c.in_ok-check_submit.ensures.few),
       grind (arith, room, made, some, c.push_back_reserved.ensures.len, c.join_ripe.ensures.len, c.join_ripe.ensures.capacity),
     )
 
@@ -40,4 +40,4 @@ returns-clause-did g c =
     c.closings-since.ensures c.push_back_reserved.ensures.items joined in
     let next = made ∙ ap (λ d. ripened d (delayed c.args.txn (sequencing_of i.history.state i.queue.items i.held_back.items))) delay ∙ ap (λ s. ripened c.args.self.now.delay (delayed c.args.txn s)) old in
     subst (λ d. Did (not (can_submit_cold c.args.self.now)) (Ok tt) d c.args.self.now.sequencing (sequencing_of i.history.state c.join_ripe.new.queue.items c.join_ripe.new.held.items))
-    (sym (c.in_ok-check.ensures.deed (ripened c.args.self.now.delay (delayed c.args.txn c.args.self.now.sequencing)))) (refl, next)
+    (sym (c.in_ok-check_submit.ensures.deed (ripened c.args.self.now.delay (delayed c.args.txn c.args.self.now.sequencing)))) (refl, next)
