@@ -15,7 +15,6 @@ pub mod Mirrored
 pub mod OneOrder
 pub mod ToldOrders
 pub mod Seats
-pub mod Sizes
 pub mod SteppedSeats
 pub mod ReachedReplicas
 pub mod RunReplicas

@@ -47,7 +47,7 @@ module _ {Args Row : Type 0} where
       go ended (inr other) = ap turn_done other ∙ ended
       go ended (inl same) = ap (λ p. turn_done (get (insert s.turns q y) p)) same ∙ ap turn_done (insert_here place_cmp place_total place_exact s.turns q y) ∙ stays (ap (λ p. turn_done (turn_at s p)) (sym same) ∙ ended)
 
-  admitted_done : (here : Site) (s : Scheduling Args Row) (q : Place) (t : Txn Args) → (turn_done (turn_at s q) ≡ true → ⊥) → (n : Place) → is_done s n ≡ true → is_done (admitted here s q t) n ≡ true
+  pub admitted_done : (here : Site) (s : Scheduling Args Row) (q : Place) (t : Txn Args) → (turn_done (turn_at s q) ≡ true → ⊥) → (n : Place) → is_done s n ≡ true → is_done (admitted here s q t) n ≡ true
   admitted_done here s q t fresh n done = go (has_local_key here t)
     where
       go : (b : Bool) → is_done (record (cond b (with_turn s q (new_turn t)) s) { last = Some q }) n ≡ true
@@ -55,21 +55,21 @@ module _ {Args Row : Type 0} where
       go false = done
 
   -- each call leaves what is done
-  abbrev StaysDone : Scheduling Args Row → Scheduling Args Row → Type 0
+  abbrev pub StaysDone : Scheduling Args Row → Scheduling Args Row → Type 0
   StaysDone old new = (n : Place) → is_done old n ≡ true → is_done new n ≡ true
 
-  begun_done : (here : Site) (s : Scheduling Args Row) (q : Place) (next : Scheduling Args Row) (out : Serving Args Row) → begin here q s ≡ Does next out → StaysDone s next
+  pub begun_done : (here : Site) (s : Scheduling Args Row) (q : Place) (next : Scheduling Args Row) (out : Serving Args Row) → begin here q s ≡ Does next out → StaysDone s next
   begun_done here s q next out e n done =
       let b = (begin_does here q s next out e).0 in
       subst (λ (x : Scheduling Args Row). is_done x n ≡ true) (sym b.now)
       (stays_done s q (begun_turn here s.store.map b.turn) _ refl (λ h. let late = sym (ap turn_done b.has_turn ∙ ap is_finished b.waits) ∙ h in absurd (false≢true late)) n done)
 
-  received_done : (here : Site) (s : Scheduling Args Row) (q : Place) (from : ℕ) (rows : Rows Row) (next : Scheduling Args Row) (out : Unit {0}) → on_reads here q from rows s ≡ Does next out → StaysDone s next
+  pub received_done : (here : Site) (s : Scheduling Args Row) (q : Place) (from : ℕ) (rows : Rows Row) (next : Scheduling Args Row) (out : Unit {0}) → on_reads here q from rows s ≡ Does next out → StaysDone s next
   received_done here s q from rows next out e n done =
       let b = on_reads_does here q s from rows next out e in
       subst (λ (x : Scheduling Args Row). is_done x n ≡ true) (sym b.now) (stays_done s q (with_rows from rows b.turn) _ refl (λ h. sym (ap turn_done b.has_turn) ∙ h) n done)
 
-  finished_done : {Reply : Type 0} (m : Meaning Args Row Reply) (here : Site) (s : Scheduling Args Row) (q : Place) (next : Scheduling Args Row) (out : Txn Args × Answer Reply) → finish m here q s ≡ Does next out → StaysDone s next
+  pub finished_done : {Reply : Type 0} (m : Meaning Args Row Reply) (here : Site) (s : Scheduling Args Row) (q : Place) (next : Scheduling Args Row) (out : Txn Args × Answer Reply) → finish m here q s ≡ Does next out → StaysDone s next
   finished_done m here s q next out e n done =
       let b = (finish_does here q s m next out e).0 in
       subst (λ (x : Scheduling Args Row). is_done x n ≡ true) (sym b.now) (stays_done s q (record b.turn { phase = Done }) _ refl (λ h. refl) n done)

@@ -180,7 +180,7 @@ module _ {Args Row : Type 0} (opened : ℕ) (last : Option Place) (kept : FinMap
 
 -- what is done doesn't matter
 module _ {Args Row : Type 0} (s : Scheduling Args Row) (merged : ℕ) where
-  all_left : (n : ℕ) (qs : List Place) → list_all (λ q. nat_le n q.epoch || is_done s q) (left s qs) ≡ list_all (λ q. nat_le n q.epoch || is_done s q) qs
+  pub all_left : (n : ℕ) (qs : List Place) → list_all (λ q. nat_le n q.epoch || is_done s q) (left s qs) ≡ list_all (λ q. nat_le n q.epoch || is_done s q) qs
   all_left n [] = refl
   all_left n (q ∷ qs) = go (is_done s q) refl (all_left n qs)
     where
@@ -189,7 +189,7 @@ module _ {Args Row : Type 0} (s : Scheduling Args Row) (merged : ℕ) where
       go true e rest = rest ∙ sym (ap (λ b. b && list_all (λ r. nat_le n r.epoch || is_done s r) qs) (or_right (nat_le n q.epoch) (is_done s q) e))
       go false e rest = ap (λ b. (nat_le n q.epoch || is_done s q) && b) rest
 
-  stands_left : (due : List Place) (n : ℕ) → stands s merged (left s due) n ≡ stands s merged due n
+  pub stands_left : (due : List Place) (n : ℕ) → stands s merged (left s due) n ≡ stands s merged due n
   stands_left due n = ap (λ b. ((nat_le n merged && nat_le s.opened_from.epoch n) && b) && none_done_from s n) (all_left n due)
 
   pub stands_at_left : (due : List Place) → stands_at s merged (left s due) ≡ stands_at s merged due

@@ -2,6 +2,14 @@
 #![tactic(auto)]
 
 #[cfg(test)]
+mod drawing;
+#[cfg(test)]
+mod drawn;
+#[cfg(test)]
+mod plain;
+#[cfg(test)]
+mod plain_kv;
+#[cfg(test)]
 mod shown;
 #[cfg(test)]
 mod two_partitions;

@@ -1,7 +1,7 @@
 use denote.Memory.{lone}
 use prog.Memory.{align, size}
 use Rattle.std.proofs.Common.{ap, ◌∙◌}
-use Rattle.calvin_bench.proofs.Sizes.{align_most, serving_fits}
+use Rattle.calvin_sched.proofs.Sizes.{align_most, serving_fits}
 use Rattle.calvin_bench.proofs.Seats.{tells, begun_ok}
 use Rattle.calvin_bench.proofs.partition.Partition.begin.Goals as goal
 

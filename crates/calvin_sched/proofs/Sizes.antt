@@ -1,5 +1,5 @@
--- What a request that begins answers fits in memory where a request fits there with what it sees and what came of it: it has the
--- request and a view, and in place of the writes only the numbers of partitions.
+-- What is made of a request, a view, an answer and few numbers fits in memory where a request fits there with what it sees and
+-- what came of it.
 use Prim.Native.Nat.{ℕ, ◌+◌, ◌*◌, ◌^◌, ◌<◌, ◌≤◌, max}
 use mir.Syntax.{Ty, Width, w8, w16, w32, w64, w128}
 use mir.Val.{bytes}
@@ -19,7 +19,7 @@ pub align_most : (τ : Ty) → align τ ≤ 16
 align_most τ = subst (λ (k : ℕ). k ≤ 16) (sym (align-bytes τ)) (of_width (align_w τ))
 
 -- the next multiple is near
-up_near : (k e : ℕ) → 0 < k → up k e < e + k
+pub up_near : (k e : ℕ) → 0 < k → up k e < e + k
 up_near k e positive = omega arith
 
 -- a request, a view and 40 bytes, and a place, a request, a view, an answer and writes
@@ -81,7 +81,8 @@ module _ (a s b t r u : ℕ) where
   abbrev pub serving_size : ℕ
   serving_size = up (max txn_at (max view_at 8)) (up 8 (up view_at (up txn_at 0 + txn_size) + view_size) + 40)
 
-  much : 280 ≤ view_size
+  -- a view is large
+  pub much : 280 ≤ view_size
   much =
       let x1 = up-ge b 16 in
       let x2 = up-ge pair_at (up b 16 + t) in
@@ -96,6 +97,7 @@ module _ (a s b t r u : ℕ) where
       enough : (t p1 p2 p3 p4 p5 p6 p7 p8 p9 : ℕ) → 16 ≤ p1 → p1 + t ≤ p2 → 1 ≤ p3 → max 1 (max (p3 + p2) 1) ≤ p4 → p5 + 16 * p4 ≤ p6 → p6 + 8 ≤ p8 → p7 + p8 ≤ p9 → 280 ≤ p9
       enough t p1 p2 p3 p4 p5 p6 p7 p8 p9 h1 h2 h3 h4 h5 h6 h7 = omega arith
 
+  -- what a request that begins answers: it has the request and a view, and in place of the writes only the numbers of partitions
   pub serving_fits : a ≤ 16 → b ≤ 16 → work_size < 2 ^ 63 → serving_size < 2 ^ 63
   serving_fits a16 b16 fits = within_work (max txn_at (max view_at 8)) txn_at view_at job_at reply_at (max job_at (max reply_at (max view_at 1))) txn_size view_size (up reply_at (max (up r 1 + u) 1)) view_size
       (omega arith) (omega (arith, a16, b16)) (omega arith) (omega (arith, a16)) (omega arith) (omega (arith, b16)) much fits
