@@ -1,8 +1,10 @@
 -- What a call of one part of a node made of it makes of the node.
-use Rattle.std.proofs.Common.{◌≡◌, ℕ, suc, ◌<◌, Bool, true, false, cond, not, List, [], ◌∷◌, length, drop, slice_index_or, Result, Ok, Err, refl, sym, ap, subst, ◌∙◌, arith}
+use Rattle.std.proofs.Common.{◌≡◌, ℕ, suc, ◌<◌, Bool, true, false, cond, not, List, [], ◌∷◌, ◌++◌, length, drop, slice_index_or, Option, Some, None, Bor, Result, Ok, Err, refl, sym, ap, subst, ◌∙◌, arith}
 use Rattle.std.proofs.lemmas.Bool.{false≢true}
+use Rattle.std.proofs.lemmas.List.{append-nil}
 use Rattle.std.specs.List.{filter}
-use Rattle.std.specs.Prelude.{nat_le}
+use Rattle.std.specs.Prelude.{nat_le, is_some}
+use Rattle.std.specs.Option.{option_copied}
 use Rattle.calvin_types.specs.declared.fault.Fault.{Fault}
 use Rattle.calvin_types.specs.declared.fault.Fault.TheVariants.{Older}
 use Rattle.calvin_types.specs.declared.place.Place.{Place}
@@ -15,10 +17,10 @@ use Rattle.calvin_sched.specs.Keeping.{takes_effect}
 use Rattle.calvin_sched.specs.Progress.{left}
 use Rattle.calvin_sched.specs.Scheduling.{Scheduling, is_done}
 use Rattle.calvin_node.specs.NodeStates.{NodeState, with_sequencer}
+use Rattle.calvin_node.specs.declared.packet.Packet.{Packet}
 use Rattle.calvin_node.specs.Handling.{NodeDeed, by_scheduler}
 use Rattle.calvin_node.specs.Acting.{by_sequencer, lock_by, snapshot_by}
-use Rattle.calvin_node.specs.declared.packet.Packet.{Packet}
-use Rattle.calvin_node.specs.Running.{Running, settled, NodeDid}
+use Rattle.calvin_node.specs.Running.{Running, NodeDid}
 
 -- what passes once passes again
 pub filter_again : {A : Type 0} (p : A → Bool) (xs : List A) → filter p (filter p xs) ≡ filter p xs
@@ -31,6 +33,10 @@ filter_again p (x ∷ xs) = go (p x) refl (filter_again p xs)
 
 pub left_again : {Args Row : Type 0} (s : Scheduling Args Row) (due : List Place) → left s (left s due) ≡ left s due
 left_again s due = filter_again (λ q. not (is_done s q)) due
+
+-- what is left once places are done, of what was left before
+pub left_then : {Args Row : Type 0} (before after : Scheduling Args Row) (due now : List Place) → now ≡ left after due → left before due ≡ due → left after now ≡ left after (left before due)
+left_then before after due now is undone = ap (left after) (is ∙ ap (left after) (sym undone)) ∙ left_again after (left before due)
 
 -- the call without what it answers
 abbrev pub ended : {Out : Type 0} → Result Out Fault → Result (Unit {0}) Fault
@@ -45,6 +51,13 @@ module _ {Args Row : Type 0} where
   abbrev pub running : Config → NodeState Args Row → Running Args Row
   running c y = record { config = c; state = y }
 
+-- what sends nothing leaves what was sent before
+pub quiet : {Args Row Reply : Type 0} (grows : Bool) (r : Result (Unit {0}) Fault) (d : NodeDeed Args Row Reply) (old new : Running Args Row) (sent : List (Packet Args Row Reply)) → NodeDid grows r d old new [] [] → NodeDid grows r d old new sent sent
+quiet grows (Ok out) (Refuses f) old new sent h = h
+quiet grows (Ok out) (Does next packets) old new sent h = (h.0, sym (append-nil sent) ∙ ap (λ ps. sent ++ ps) h.1)
+quiet grows (Err e) (Refuses f) old new sent h = (h.0, h.1, refl)
+quiet grows (Err e) (Does next packets) old new sent h = (h.0, h.1, h.2, refl)
+
 module _ {Args Row : Type 0} (Reply : Type 0) (c : Config) (x : NodeState Args Row) (is : left x.scheduler x.due ≡ x.due) where
   -- the sequencer did something, and nothing is sent
   pub sequenced : {Out : Type 0} (grows : Bool) (r : Result Out Fault) (d : Deed (Sequencing Args) Out) (next : Sequencing Args) → Did grows r d x.sequencer next
@@ -56,7 +69,7 @@ module _ {Args Row : Type 0} (Reply : Type 0) (c : Config) (x : NodeState Args R
 
   -- ---- the scheduler
 
-  unchanged : (s : Scheduling Args Row) → s ≡ x.scheduler → running c (with_steps x s x.pending) ≡ running c x
+  pub unchanged : (s : Scheduling Args Row) → s ≡ x.scheduler → running c (with_steps x s x.pending) ≡ running c x
   unchanged s e = (λ i. running c (with_steps x (e i) x.pending)) ∙ (λ i. running c (record x { due = is i }))
 
   -- the next request is admitted, or it isn't
@@ -103,3 +116,8 @@ ended_is (Err fault) = refl
 pub first_and_rest : {A : Type 0} (xs : List A) (x : A) → 0 < length xs → x ≡ slice_index_or xs 0 x → xs ≡ x ∷ drop 1 xs
 first_and_rest [] x some at = absurd (omega (arith, some))
 first_and_rest (y ∷ ys) x some at = ap (λ z. z ∷ ys) (sym at)
+
+-- a copy is there where the original is
+pub copied_some : {A : Type 0} (o : Option (Bor A)) → is_some (option_copied o) ≡ is_some o
+copied_some None = refl
+copied_some (Some r) = refl

@@ -1,6 +1,6 @@
 -- Where memory may be wanted: what keeps or sends more where it takes effect. A batch, an attempt, requests to admit, a
 -- request that waits, rows that are read or loaded, a snapshot or a packet. The notion is of this project.
-use Rattle.std.specs.Prelude.{Bool, true, false, [], ◌∷◌, Option, Some, None}
+use Rattle.std.specs.Prelude.{Bool, true, false, [], ◌∷◌}
 use Rattle.calvin_types.specs.Orders.{Order}
 use Rattle.calvin_types.specs.Participants.{Site, has_local_key}
 use Rattle.calvin_synod.specs.Cases.{message_grows}

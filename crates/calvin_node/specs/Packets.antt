@@ -13,6 +13,11 @@ use Rattle.calvin_node.specs.declared.packet.Content.{Content}
 use Rattle.calvin_node.specs.declared.packet.Content.TheVariants.{Synod, Warm}
 use Rattle.calvin_node.specs.declared.packet.Packet.{Packet}
 
+-- what is sent, and how many more packets are sure to find room
+pub record Outgoing (Args Row Reply : Type 0) : Type 0 where
+  pub packets : List (Packet Args Row Reply)
+  pub room : ℕ
+
 -- the other partitions, ascending
 abbrev pub others : ℕ → ℕ → List ℕ
 others parts p = filter (λ q. not (q == p)) (range_with_len 0 parts)

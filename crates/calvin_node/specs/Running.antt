@@ -6,9 +6,11 @@
 --     kept_rows kept      its rows
 --     config_of partitions replicas points cold delay      what a store is opened with, in which no batch is woven
 --     state_of id member sequencer merge pending scheduler kept      the data of a node with these parts
+--     given_by deed      the batch that a replica's learner gives, if it gives one
 --     IsNode partitions replicas id member merge scheduler      the parts of a node are of its store and its name
+--     NodeFinished m job result old new sent all      what a job that was run made of a node, and of what it sent
 --     NodeDid grows result deed old new sent all      what a call made of a node, and of what it sent, by the deed
-use Rattle.std.specs.Prelude.{◌≡◌, ℕ, suc, ◌++◌, Bool, true, List, Option, Some, None, Result, Ok, Err}
+use Rattle.std.specs.Prelude.{◌≡◌, ◌⊎◌, ℕ, suc, ◌++◌, Bool, true, List, Option, Some, None, Result, Ok, Err}
 use Rattle.std.specs.FinMap.{empty}
 use Rattle.calvin_types.specs.declared.fault.Fault.{Fault}
 use Rattle.calvin_types.specs.declared.fault.Fault.TheVariants.{OutOfMemory}
@@ -16,17 +18,23 @@ use Rattle.calvin_types.specs.declared.place.NodeId.{NodeId}
 use Rattle.calvin_types.specs.Orders.{Order}
 use Rattle.calvin_types.specs.Deeds.{Refuses, Does}
 use Rattle.calvin_types.specs.Participants.{site}
+use Rattle.calvin_app.specs.declared.job.Job.{Job}
+use Rattle.calvin_app.specs.Meaning.{Meaning}
 use Rattle.calvin_app.specs.Rows.{Rows}
+use Rattle.calvin_types.specs.declared.place.Slot.{Slot}
+use Rattle.calvin_synod.specs.Cases as synod
 use Rattle.calvin_synod.specs.Deeds.{MemberState}
 use Rattle.calvin_order.specs.Configs.{Config}
 use Rattle.calvin_order.specs.Keeping.{Sequenced}
 use Rattle.calvin_order.specs.Merged.{Batch}
 use Rattle.calvin_order.specs.Merging.{Merging}
-use Rattle.calvin_sched.specs.Keeping.{Scheduled}
+use Rattle.calvin_sched.specs.Keeping.{Scheduled, IsNotDue}
 use Rattle.calvin_sched.specs.Progress.{left}
+use Rattle.calvin_sched.specs.Steps.{job}
 use Rattle.calvin_node.specs.declared.packet.Packet.{Packet}
-use Rattle.calvin_node.specs.NodeStates.{NodeState}
+use Rattle.calvin_node.specs.NodeStates.{NodeState, site_of}
 use Rattle.calvin_node.specs.Handling.{NodeDeed}
+use Rattle.calvin_node.specs.Acting.{finish}
 
 pub record Running (Args Row : Type 0) : Type 0 where
   pub config : Config
@@ -73,6 +81,11 @@ pub record IsNode {Args Row : Type 0} (partitions replicas : ℕ) (id : NodeId) 
   -- the scheduler was told of each epoch that is merged
   pub merged : scheduler.merged ≡ merge.next
 
+-- the batch that a replica's learner gives, if it gives one
+abbrev pub given_by : {B : Type 0} → synod.Deed B → Option (Slot × B)
+given_by (synod.Refuses fault) = None
+given_by (synod.Does x letters given) = given
+
 module _ {Args Row Reply : Type 0} where
   -- the deed takes effect: the node is what it leaves, settled, and its packets are sent after the others; or it is its refusal, and nothing changed; or memory ran out, where something grows, and nothing changed
   abbrev pub NodeDid : Bool → Result (Unit {0}) Fault → NodeDeed Args Row Reply → Running Args Row → Running Args Row → List (Packet Args Row Reply) → List (Packet Args Row Reply) → Type 0
@@ -80,3 +93,11 @@ module _ {Args Row Reply : Type 0} where
   NodeDid grows (Ok out) (Does next packets) old new sent all = (new ≡ record old { state = settled next }) × (all ≡ sent ++ packets)
   NodeDid grows (Err refusal) (Refuses fault) old new sent all = (refusal ≡ fault) × (new ≡ old) × (all ≡ sent)
   NodeDid grows (Err refusal) (Does next packets) old new sent all = (grows ≡ true) × (refusal ≡ OutOfMemory) × (new ≡ old) × (all ≡ sent)
+
+  -- the job is the one that is due, and the finish of its place takes effect; or it isn't due, or memory ran out, and nothing changed
+  abbrev pub NodeFinished : Meaning Args Row Reply → Job Args Row → Result (Unit {0}) Fault → Running Args Row → Running Args Row → List (Packet Args Row Reply) → List (Packet Args Row Reply) → Type 0
+  NodeFinished m j (Ok out) old new sent all =
+      (job (site_of old.config.partitions old.state) j.place old.state.scheduler ≡ Ok j) × NodeDid true (Ok out) (finish m old.config j.place old.state) old new sent all
+  NodeFinished m j (Err fault) old new sent all =
+      (new ≡ old) × (all ≡ sent) × (IsNotDue j (job (site_of old.config.partitions old.state) j.place old.state.scheduler) fault
+      ⊎ ((fault ≡ OutOfMemory) × (job (site_of old.config.partitions old.state) j.place old.state.scheduler ≡ Ok j)))

@@ -6,14 +6,16 @@ ghost use Rattle.calvin_sched.specs.Steps as steps;
 ghost use Rattle.calvin_node.specs.Acting as acting;
 ghost use Rattle.calvin_node.specs.Growing.{act_grows};
 ghost use Rattle.calvin_node.specs.NodeStates.{site_of};
-ghost use Rattle.calvin_node.specs.Running.{NodeDid};
+ghost use Rattle.calvin_node.specs.Running.{NodeDid, NodeFinished};
 ghost use Rattle.calvin_node.specs.declared.act.Act.TheVariants as act;
 
 use crate::node::Node;
-use calvin_app::{App, Job};
+use crate::outbox::Outbox;
+use crate::packet::{Address, Content, Packet};
+use calvin_app::{App, Computed, Job};
 use calvin_lock::Locks;
 use calvin_store::Rows;
-use calvin_types::{Fault, Place};
+use calvin_types::{Fault, MOST_KEYS, Place};
 
 impl<A: App, L: Locks + Drop, S: Rows<A::Row> + Drop> Node<A, L, S> {
     /// The next merged request asks for its locks, or is passed over where it has no key here. Refused with `NothingToLock`
@@ -31,12 +33,52 @@ impl<A: App, L: Locks + Drop, S: Rows<A::Row> + Drop> Node<A, L, S> {
         Ok(())
     }
 
+    /// The request at a place has its locks, and reads what is stored here: where a key that it reads is, the other partitions
+    /// of the replica that run it are sent these rows (section 3.2). Refused with `NotReady` where it isn't admitted, with
+    /// `Begun` where it has begun or is done, else with `NotReady` where it hasn't all its locks; else with `OutOfMemory`
+    /// where it reads a key here and a growth was refused.
+    pub fn begin(&mut self, place: Place, outbox: &mut Outbox<A>) -> Result<(), Fault>
+        ensures did { NodeDid (act_grows self.old.config (act.Begin place) self.old.state) result (acting.begin self.old.config place self.old.state) self.old self.new outbox.old.packets outbox.new.packets }
+    {
+        let _epochs = self.scheduler.merged_epochs();
+        self.scheduler.check_begin(place)?;
+        if !self.scheduler.reads_here(place) {
+            let _nothing_read = self.scheduler.begin(place)?;
+            return Ok(());
+        }
+        outbox.reserve(MOST_KEYS)?;
+        let serving = self.scheduler.begin(place)?;
+        outbox.post_reads(self.id, place, &serving.rows, &serving.others);
+        Ok(())
+    }
+
     /// What is to be run at a place. Refused with `NotReady` where the request has not begun or is done, else with
     /// `ReadsMissing` where rows of another partition are still to come. It takes no memory.
     pub fn job(&self, place: Place) -> Result<Job<A::Args, A::Row>, Fault>
         ensures { result ≡ steps.job (site_of self.now.config.partitions self.now.state) place self.now.state.scheduler }
     {
         self.scheduler.job(place)
+    }
+
+    /// Takes what came of a job: what it writes here is put into the rows, its locks are released, and the request's client is
+    /// answered. Refused with `NotCollected` where no job is due at its place, with `StaleJob` where another one is, else
+    /// with `OutOfMemory` where a growth was refused.
+    pub fn finish(&mut self, computed: &Computed<A>, outbox: &mut Outbox<A>) -> Result<(), Fault>
+        ensures did { NodeFinished A.meaning computed.now.job result self.old self.new outbox.old.packets outbox.new.packets }
+    {
+        let _epochs = self.scheduler.merged_epochs();
+        if outbox.reserve(1).is_err() {
+            self.scheduler.check_finish(computed)?;
+            return Err(Fault::OutOfMemory);
+        }
+        let answer = self.scheduler.finish(computed)?;
+        let txn = &computed.job.txn;
+        outbox.push_reserved(Packet {
+            from: self.id,
+            to: Address::AtClient(txn.id.client),
+            content: Content::Replies(computed.job.place, txn.id, txn.attempt, answer),
+        });
+        Ok(())
     }
 
     /// The least place, of those after `after` where one is given, whose request isn't done and has its locks.

@@ -1,4 +1,5 @@
 //! What nodes send each other and clients.
+ghost use Rattle.calvin_node.specs.Handling.{is_for};
 ghost use Rattle.std.specs.Prelude.{◌≡◌, IfOk, IsOkUnless};
 
 use calvin_app::{Answer, View};
@@ -12,6 +13,18 @@ pub enum Address {
     AtNode(NodeId),
     /// The client of this number.
     AtClient(u32),
+}
+
+impl Address {
+    /// Whether it is the address of this node.
+    pub fn is_for(self, id: NodeId) -> bool
+        ensures { result ≡ is_for self id }
+    {
+        match self {
+            Address::AtNode(node) => node.replica == id.replica && node.partition == id.partition,
+            Address::AtClient(_) => false,
+        }
+    }
 }
 
 /// What a packet says.

@@ -4,10 +4,11 @@ ghost use Rattle.calvin_node.specs.Acting as acting;
 ghost use Rattle.calvin_node.specs.Running.{NodeDid};
 
 use crate::node::Node;
+use crate::outbox::Outbox;
 use calvin_app::App;
 use calvin_lock::Locks;
 use calvin_store::Rows;
-use calvin_types::{Fault, Txn};
+use calvin_types::{Fault, MOST_KEYS, Txn};
 
 impl<A: App, L: Locks + Drop, S: Rows<A::Row> + Drop> Node<A, L, S> {
     /// A client's request joins the sequencer's queue. Refused with `QueueFull` where 4,096 requests are queued, held back, or
@@ -17,6 +18,19 @@ impl<A: App, L: Locks + Drop, S: Rows<A::Row> + Drop> Node<A, L, S> {
         ensures did { NodeDid {Reply = A.Reply} true result (acting.submit txn self.old.state) self.old self.new [] [] }
     {
         self.sequencer.submit(txn)
+    }
+
+    /// A client's request that may touch cold rows is held back for some closings, while the partitions of the replica that
+    /// store its keys are told to have their rows in memory (section 4: rows on disk). Refused as `submit` is.
+    pub fn submit_cold(&mut self, txn: Txn<A::Args>, outbox: &mut Outbox<A>) -> Result<(), Fault>
+        ensures did { NodeDid true result (acting.submit_cold self.old.config txn self.old.state) self.old self.new outbox.old.packets outbox.new.packets }
+    {
+        let _epochs = self.scheduler.merged_epochs();
+        self.sequencer.check_submit(&txn)?;
+        outbox.reserve(MOST_KEYS)?;
+        self.sequencer.submit_cold(txn)?;
+        outbox.post_warm(&self.config, self.id, &txn);
+        Ok(())
     }
 
     /// The sequencer closes the batch of its next epoch (Thomson et al. 2012, section 3.1: an epoch ends): the requests at the

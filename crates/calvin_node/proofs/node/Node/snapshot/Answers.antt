@@ -1,7 +1,6 @@
 use Rattle.std.proofs.Common.{◌≡◌, ◌+◌, ◌≤◌, suc, [], true, Ok, Err, refl, sym, ap, subst, ◌∙◌, arith}
 use Rattle.std.proofs.lemmas.Bool.{le-leb}
 use Rattle.std.proofs.lemmas.Result.{err_from_is_err_and}
-use Rattle.std.specs.Prelude.{nat_le}
 use Rattle.calvin_types.specs.Deeds.{Did}
 use Rattle.calvin_app.specs.Rows.{Rows}
 use Rattle.calvin_sched.specs.Keeping.{takes_effect}
@@ -9,7 +8,7 @@ use Rattle.calvin_sched.specs.Progress.{left}
 use Rattle.calvin_sched.specs.Standing.{take_rows}
 use Rattle.calvin_node.specs.Acting as acting
 use Rattle.calvin_node.specs.Running.{NodeDid, config_of, state_of, kept_epochs}
-use Rattle.calvin_node.proofs.Settling.{running, with_steps, left_again, not_taken, taken}
+use Rattle.calvin_node.proofs.Settling.{running, left_again, not_taken, taken}
 use Rattle.calvin_node.proofs.node.Node.snapshot.Goals as goal
 
 pub returns-in_err-can_take : goal.returns-in_err-can_take

@@ -1,0 +1,42 @@
+//! What a node does that its group may agree on its batches.
+ghost use Rattle.calvin_node.specs.Acting as acting;
+ghost use Rattle.calvin_node.specs.Running.{NodeDid};
+ghost use Rattle.std.specs.Prelude.{true};
+
+use crate::node::Node;
+use crate::outbox::Outbox;
+use calvin_app::App;
+use calvin_lock::Locks;
+use calvin_store::Rows;
+use calvin_types::{Fault, Slot};
+
+impl<A: App, L: Locks + Drop, S: Rows<A::Row> + Drop> Node<A, L, S> {
+    /// Begins a new ballot for the batch that the sequencer closed for an epoch ("Paxos Made Simple", section 2.2, phase 1a).
+    /// Refused with `RoundsSpent` where there is no greater round, with `NotClosed` where no batch was closed for the epoch
+    /// since the last restart, with `Decided` where the slot's batch is held, else with `OutOfMemory` where a growth was
+    /// refused or the batch can have no more owners.
+    pub fn propose(&mut self, epoch: u64, outbox: &mut Outbox<A>) -> Result<(), Fault>
+        ensures did { NodeDid true result (acting.propose self.old.config epoch self.old.state) self.old self.new outbox.old.packets outbox.new.packets }
+    {
+        let _epochs = self.scheduler.merged_epochs();
+        let slot = Slot {
+            epoch,
+            group: self.id.partition,
+        };
+        let mail = self.member.prepare_to_all(slot)?;
+        let Some(batch) = self.sequencer.closed(epoch) else {
+            return Err(Fault::NotClosed);
+        };
+        if self.merge.held(slot).is_some() {
+            return Err(Fault::Decided);
+        }
+        let batch = batch.copy()?;
+        let sent = outbox.len();
+        outbox.post(self.config.replicas, self.id, mail)?;
+        if let Err(fault) = self.member.propose(slot, batch) {
+            outbox.take_back(sent);
+            return Err(fault);
+        }
+        Ok(())
+    }
+}

@@ -1,0 +1,82 @@
+//! What a node asks for again.
+ghost use Rattle.std.specs.Prelude.{◌≡◌, ◌==◌, ◌&&◌, not, nat_lt, true};
+ghost use Rattle.calvin_sched.specs.Keeping.{awaits_at};
+ghost use Rattle.calvin_sched.specs.Scheduling.{turn_at};
+ghost use Rattle.calvin_node.specs.Acting as acting;
+ghost use Rattle.calvin_node.specs.NodeStates.{site_of};
+ghost use Rattle.calvin_node.specs.Running.{NodeDid};
+
+use crate::node::Node;
+use crate::outbox::Outbox;
+use crate::packet::{Address, Content, Packet};
+use calvin_app::App;
+use calvin_lock::Locks;
+use calvin_store::Rows;
+use calvin_types::{Fault, Few, NodeId, Place, Slot};
+
+impl<A: App, L: Locks + Drop, S: Rows<A::Row> + Drop> Node<A, L, S> {
+    /// Whether there is such a node, and such a slot.
+    fn is_there(&self, of: NodeId, slot: Slot) -> bool
+        ensures { result ≡ (nat_lt of.replica self.now.config.replicas && nat_lt of.partition self.now.config.partitions && nat_lt slot.group self.now.config.partitions) }
+    {
+        of.replica < self.config.replicas
+            && of.partition < self.config.partitions
+            && slot.group < self.config.partitions
+    }
+
+    /// Asks a node for the batch of a slot. Refused with `NoNode` where there is no such node or group, with `Known` where the
+    /// batch is held, else with `OutOfMemory` where a growth was refused.
+    pub fn ask_batch(&self, slot: Slot, of: NodeId, outbox: &mut Outbox<A>) -> Result<(), Fault>
+        ensures did { NodeDid true result (acting.ask_batch self.now.config slot of self.now.state) self.now self.now outbox.old.packets outbox.new.packets }
+    {
+        let _epochs = self.scheduler.merged_epochs();
+        if !self.is_there(of, slot) {
+            return Err(Fault::NoNode);
+        }
+        if self.merge.held(slot).is_some() {
+            return Err(Fault::Known);
+        }
+        outbox.push(Packet {
+            from: self.id,
+            to: Address::AtNode(of),
+            content: Content::AskBatch(slot),
+        })
+    }
+
+    /// Whether rows of another partition are awaited for the request at a place.
+    fn is_awaited(&self, place: Place, other: u8) -> bool
+        ensures { result ≡ (not (other == self.now.state.id.partition) && awaits_at (site_of self.now.config.partitions self.now.state) (turn_at self.now.state.scheduler place) other) }
+    {
+        other != self.id.partition && self.scheduler.awaits(place, other)
+    }
+
+    /// The partitions whose rows are awaited for the request at a place, ascending.
+    fn awaited_from(&self, place: Place) -> Few<u8>
+        ensures { result ≡ acting.awaited_from self.now.config self.now.state (turn_at self.now.state.scheduler place) }
+    {
+        let mut awaited = Few::new();
+        for other in 0..self.config.partitions {
+            if self.is_awaited(place, other) {
+                awaited.push(other);
+            }
+        }
+        awaited
+    }
+
+    /// Asks the partitions of a replica for the rows that are awaited of them for the request at a place. Refused with `NoNode`
+    /// where there is no such replica, with `NotAwaited` where no rows are awaited, else with `OutOfMemory` where a growth
+    /// was refused.
+    pub fn ask_reads(&self, place: Place, replica: u8, outbox: &mut Outbox<A>) -> Result<(), Fault>
+        ensures did { NodeDid true result (acting.ask_reads self.now.config place replica self.now.state) self.now self.now outbox.old.packets outbox.new.packets }
+    {
+        let _epochs = self.scheduler.merged_epochs();
+        if replica >= self.config.replicas {
+            return Err(Fault::NoNode);
+        }
+        let awaited = self.awaited_from(place);
+        if awaited.len() == 0 {
+            return Err(Fault::NotAwaited);
+        }
+        outbox.post_to_each(self.id, replica, &Content::AskReads(place), &awaited)
+    }
+}

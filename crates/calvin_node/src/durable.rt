@@ -1,0 +1,129 @@
+//! What outlives a restart of a node.
+ghost use Rattle.std.specs.Prelude.{◌≡◌, ◌^◌, [], Ok, true, IfOk, IfErr, IsOkUnless};
+ghost use Rattle.std.specs.Option.{unwrap_or};
+ghost use Rattle.calvin_types.specs.Participants.{site};
+ghost use Rattle.calvin_order.specs.Merged.{end_of};
+ghost use Rattle.calvin_sched.specs.Scheduling.{opened};
+ghost use Rattle.calvin_node.specs.Acting as acting;
+ghost use Rattle.calvin_node.specs.Durables as durables;
+ghost use Rattle.calvin_node.specs.Durables.{durable_of};
+ghost use Rattle.calvin_node.specs.Running.{NodeDid, config_of, kept_epochs, kept_rows};
+
+use crate::node::Node;
+use calvin_app::App;
+use calvin_lock::Locks;
+use calvin_order::{Merge, Sequencer};
+use calvin_sched::Scheduler;
+use calvin_store::{Rows, Snapshot};
+use calvin_synod::{Member, SynodRecord};
+use calvin_types::{Config, Fault, NodeId};
+use std::alloc::Global;
+use std::collections::VecDeque;
+use std::marker::Model;
+
+/// The promises and votes of a node, the greatest round that it used, and its last snapshot, if it has one: with the epoch at
+/// whose end it was taken (Thomson et al. 2012, section 5: a node loads a checkpoint and replays the agreed inputs).
+#[derive(Drop)]
+pub struct Durable<A: App> {
+    pub(crate) synod: SynodRecord<A::Args>,
+    pub(crate) kept: Option<(u64, Snapshot<A::Row>)>,
+}
+
+impl<A: App> Model for Durable<A> {
+    ghost use Rattle.std.specs.Prelude.{None};
+    ghost use Rattle.std.specs.Coded.{codes};
+    ghost use Rattle.std.specs.FinMap.{code};
+    ghost use Rattle.calvin_node.specs.Durables as durables;
+    ghost use Rattle.calvin_node.specs.Running.{kept_epochs, kept_rows};
+
+    ghost Value = { durables.Durable A.Args A.Row };
+
+    ghost coded = { Prim.hlevel (codes, code) };
+
+    ghost view = { λ d. record { acceptor = d.synod.acceptor; used = d.synod.used; kept_epochs = kept_epochs d.kept; kept_rows = kept_rows d.kept; woven_from = None } };
+}
+
+/// The epoch after those of the snapshot, if one is left below 2^64.
+fn first_epoch<Row>(kept: &Option<(u64, Snapshot<Row>)>) -> Option<u64>
+    ensures { unwrap_or result (2 ^ 64) ≡ kept_epochs kept.now }
+{
+    match kept {
+        Some((epoch, _)) => epoch.checked_add(1),
+        None => Some(0),
+    }
+}
+
+/// A scheduler that goes on from the snapshot, or begins on no rows where there is none. Refused with `OutOfMemory` where a
+/// growth was refused.
+fn scheduler_from<A: App, L: Locks + Drop, S: Rows<A::Row> + Drop>(
+    alloc: Global,
+    config: &Config,
+    partition: u8,
+    kept: &Option<(u64, Snapshot<A::Row>)>,
+) -> Result<Scheduler<A, L, S>, Fault>
+    ensures ok { IfOk result (λ s. s ≡ record { here = site config.now.partitions partition; scheduling = opened (end_of (kept_epochs kept.now)) (kept_rows kept.now); room = s.room; merged = kept_epochs kept.now; due = [] }) }
+    ensures only { IsOkUnless result Fault.OutOfMemory }
+{
+    match kept {
+        Some((epoch, rows)) => Scheduler::from_snapshot(alloc, config, partition, rows, *epoch),
+        None => Ok(Scheduler::new(alloc, config, partition)),
+    }
+}
+
+impl<A: App, L: Locks + Drop, S: Rows<A::Row> + Drop> Node<A, L, S> {
+    /// The node loses all but its durable record, and comes back from it: from its last snapshot on it asks for the batches
+    /// again, and runs them (section 5). Refused with `OutOfMemory` where a growth was refused: then nothing is lost.
+    pub fn restart(&mut self) -> Result<(), Fault>
+        ensures did { NodeDid {Reply = A.Reply} true result (acting.restart self.old.state) self.old self.new [] [] }
+    {
+        let scheduler = scheduler_from(self.alloc, &self.config, self.id.partition, &self.kept)?;
+        let first = first_epoch(&self.kept);
+        self.member.restart();
+        self.sequencer = Sequencer::from_epoch(self.alloc, self.sequencer.delay(), first);
+        self.merge = Merge::from_epoch(self.alloc, &self.config, first);
+        self.pending = VecDeque::new(self.alloc);
+        self.scheduler = scheduler;
+        Ok(())
+    }
+
+    /// Its durable record, and nothing else of it.
+    pub fn into_durable(self) -> Durable<A>
+        ensures { result ≡ durable_of self.config self.state }
+    {
+        Durable {
+            synod: self.member.into_record(),
+            kept: self.kept,
+        }
+    }
+
+    /// A node that is opened from a record, under a name: what `restart` makes of a node of this name with that record. Refused
+    /// with `OutOfMemory` where a growth was refused: the record is handed back.
+    pub fn from_durable(
+        alloc: Global,
+        config: &Config,
+        delay: u8,
+        id: NodeId,
+        durable: Durable<A>,
+    ) -> Result<Node<A, L, S>, (Fault, Durable<A>)>
+        ensures config { IfOk result (λ n. n.config ≡ config_of config.now.partitions config.now.replicas S.points S.cold delay) }
+        ensures state { IfOk result (λ n. durables.from_durable n.config id durable ≡ Ok n.state) }
+        ensures err { IfErr result (λ refused. (refused.0 ≡ Fault.OutOfMemory) × (refused.1 ≡ durable)) }
+    {
+        let scheduler = match scheduler_from(alloc, config, id.partition, &durable.kept) {
+            Ok(scheduler) => scheduler,
+            Err(fault) => return Err((fault, durable)),
+        };
+        let first = first_epoch(&durable.kept);
+        Ok(Node {
+            alloc,
+            config: *config,
+            id,
+            member: Member::from_record(alloc, config, id.replica, durable.synod),
+            sequencer: Sequencer::from_epoch(alloc, delay, first),
+            merge: Merge::from_epoch(alloc, config, first),
+            pending: VecDeque::new(alloc),
+            scheduler,
+            kept: durable.kept,
+        })
+    }
+}

@@ -1,0 +1,123 @@
+//! What a node makes of a packet.
+ghost use Rattle.std.specs.Prelude.{[], true};
+ghost use Rattle.std.specs.FinMap as map;
+ghost use Rattle.calvin_sched.specs.Scheduling.{turn_at};
+ghost use Rattle.calvin_sched.specs.Standing as standing;
+ghost use Rattle.calvin_sched.specs.Steps as steps;
+ghost use Rattle.calvin_node.specs.declared.packet.Content.TheVariants.{Warm};
+ghost use Rattle.calvin_node.specs.Growing.{content_grows};
+ghost use Rattle.calvin_node.specs.Handling as handling;
+ghost use Rattle.calvin_node.specs.NodeStates.{site_of};
+ghost use Rattle.calvin_node.specs.Running.{NodeDid};
+
+use crate::deciding::{keep, make_room};
+use crate::node::Node;
+use crate::outbox::Outbox;
+use crate::packet::{Address, Content, Packet};
+use calvin_app::{App, View};
+use calvin_lock::Locks;
+use calvin_store::Rows;
+use calvin_types::{Batch, Fault, NodeId, Place, Sets, Slot};
+
+impl<A: App, L: Locks + Drop, S: Rows<A::Row> + Drop> Node<A, L, S> {
+    /// A packet reaches the node, and what it says is done. Refused with `NotMine` where it is for another node or a client, is
+    /// an answer, or is a message of another group's synods; with what the case of its content refuses; else with
+    /// `OutOfMemory` where a growth was refused or a batch can have no more owners.
+    pub fn handle(
+        &mut self,
+        packet: &Packet<A::Args, A::Row, A::Reply>,
+        outbox: &mut Outbox<A>,
+    ) -> Result<(), Fault>
+        ensures did { NodeDid (content_grows packet.now.content) result (handling.handle self.old.config packet.now self.old.state) self.old self.new outbox.old.packets outbox.new.packets }
+    {
+        if !packet.to.is_for(self.id) {
+            return Err(Fault::NotMine);
+        }
+        self.handle_content(packet.from, &packet.content, outbox)
+    }
+
+    /// What a node tells this one is done.
+    fn handle_content(
+        &mut self,
+        from: NodeId,
+        content: &Content<A::Args, A::Row, A::Reply>,
+        outbox: &mut Outbox<A>,
+    ) -> Result<(), Fault>
+        ensures did { NodeDid (content_grows content.now) result (handling.handle_content self.old.config from content.now self.old.state) self.old self.new outbox.old.packets outbox.new.packets }
+    {
+        match content {
+            Content::Synod(message) => self.on_synod(from, message, outbox),
+            Content::Decided(slot, batch) => self.on_decided(*slot, batch),
+            Content::AskBatch(slot) => self.on_ask_batch(from, *slot, outbox),
+            Content::Reads(place, rows) => self.on_reads(from.partition, *place, rows),
+            Content::AskReads(place) => self.on_ask_reads(from, *place, outbox),
+            Content::Warm(sets) => self.on_warm(sets),
+            Content::Replies(..) => Err(Fault::NotMine),
+        }
+    }
+
+    /// The batch of a slot is decided: it is held (Thomson et al. 2012, section 3.1). Refused with `Known` where one is.
+    fn on_decided(&mut self, slot: Slot, batch: &Batch<A::Args>) -> Result<(), Fault>
+        ensures did { NodeDid {Reply = A.Reply} true result (handling.on_decided slot batch.now self.old.state (map.get self.old.state.held slot)) self.old self.new [] [] }
+    {
+        let _epochs = self.scheduler.merged_epochs();
+        if self.merge.held(slot).is_some() {
+            return Err(Fault::Known);
+        }
+        let batch = batch.copy()?;
+        let own = self.id.partition;
+        make_room(&mut self.merge, &mut self.sequencer, own, slot)?;
+        keep(&mut self.merge, &mut self.sequencer, own, slot, batch);
+        Ok(())
+    }
+
+    /// The batch of a slot is told to a node that asks for it. Refused with `NoBatch` where none is held.
+    fn on_ask_batch(&self, from: NodeId, slot: Slot, outbox: &mut Outbox<A>) -> Result<(), Fault>
+        ensures did { NodeDid true result (handling.on_ask_batch from slot self.now.state (map.get self.now.state.held slot)) self.now self.now outbox.old.packets outbox.new.packets }
+    {
+        let _epochs = self.scheduler.merged_epochs();
+        let Some(batch) = self.merge.held(slot) else {
+            return Err(Fault::NoBatch);
+        };
+        let batch = batch.copy()?;
+        outbox.push(Packet {
+            from: self.id,
+            to: Address::AtNode(from),
+            content: Content::Decided(slot, batch),
+        })
+    }
+
+    /// The rows that another partition read for the request at a place are kept (section 3.2: remote reads). Refused with
+    /// `NotAwaited` where they aren't awaited.
+    fn on_reads(&mut self, from: u8, place: Place, rows: &View<A::Row>) -> Result<(), Fault>
+        ensures did { NodeDid {Reply = A.Reply} true result (handling.by_scheduler self.old.state (steps.on_reads (site_of self.old.config.partitions self.old.state) place from rows.now self.old.state.scheduler)) self.old self.new [] [] }
+    {
+        let _epochs = self.scheduler.merged_epochs();
+        self.scheduler.on_reads(place, from, rows)
+    }
+
+    /// The rows that were read here for the request at a place are sent again to a node that asks for them. Refused with
+    /// `NotServed` where it reads no key here, isn't admitted, or has not begun.
+    fn on_ask_reads(&self, from: NodeId, place: Place, outbox: &mut Outbox<A>) -> Result<(), Fault>
+        ensures did { NodeDid true result (handling.on_ask_reads self.now.config from place self.now.state (turn_at self.now.state.scheduler place)) self.now self.now outbox.old.packets outbox.new.packets }
+    {
+        let _epochs = self.scheduler.merged_epochs();
+        if !self.scheduler.reads_here(place) {
+            return Err(Fault::NotServed);
+        }
+        let rows = self.scheduler.served(place)?;
+        outbox.push(Packet {
+            from: self.id,
+            to: Address::AtNode(from),
+            content: Content::Reads(place, rows),
+        })
+    }
+
+    /// The rows of these keys come back from the cold table, where they are there (section 4).
+    fn on_warm(&mut self, sets: &Sets) -> Result<(), Fault>
+        ensures did { NodeDid {Reply = A.Reply} true result (handling.handle_content self.old.config self.old.state.id (Warm sets.now) self.old.state) self.old self.new [] [] }
+    {
+        let _epochs = self.scheduler.merged_epochs();
+        self.scheduler.warm(sets)
+    }
+}

@@ -1,0 +1,17 @@
+//! The worked cases of nodes, which hand each other what they send, checked over the statements of the crates below.
+#![tactic(auto)]
+
+#[cfg(test)]
+mod agreement;
+#[cfg(test)]
+mod enduring;
+#[cfg(test)]
+mod letters;
+#[cfg(test)]
+mod nodes;
+#[cfg(test)]
+mod replicas;
+#[cfg(test)]
+mod shown;
+#[cfg(test)]
+mod single;

@@ -1,0 +1,247 @@
+//! Nodes side by side, and the list of all that they sent.
+use crate::shown::{Said, Sent, is_same, request};
+use calvin_app::{Kv, KvRequest};
+use calvin_lock::Locks;
+use calvin_node::{Act, Address, Node, Outbox, Packet};
+use calvin_store::{PlainRows, Rows};
+use calvin_types::{Config, Fault, NodeId, Place, Slot};
+use std::alloc::Global;
+use std::process::Abort;
+
+/// More packets than any case sends.
+const MOST_PACKETS: usize = 1000;
+
+/// A node that runs numbers by key.
+pub(crate) type Numbers<L> = Node<Kv, L, PlainRows<u64>>;
+
+/// An event of a node, which is named by its number among the nodes, or of the packet of a number.
+#[derive(Clone, Copy)]
+pub(crate) enum Step {
+    /// A request of client 7, with this number.
+    Submit(usize, u32, KvRequest),
+    Close(usize),
+    Propose(usize, u64),
+    Deliver(usize),
+    Merge(usize),
+    Lock(usize),
+    Begin(usize, Place),
+    Finish(usize, Place),
+    Snapshot(usize, u64),
+    AskReads(usize, Place, u8),
+    AskBatch(usize, Slot, NodeId),
+    Restart(usize),
+    /// The last node is opened anew from its durable record.
+    Reopen,
+}
+
+/// All nodes, numbered from 0 replica by replica, and all packets that they sent, numbered from 0.
+#[derive(Drop)]
+pub(crate) struct Nodes<L: Locks + Drop> {
+    alloc: Global,
+    config: Config,
+    nodes: Vec<Numbers<L>>,
+    sent: Outbox<Kv>,
+}
+
+/// Adds the nodes of a replica.
+fn add_replica<L: Locks + Drop>(
+    alloc: Global,
+    config: &Config,
+    replica: u8,
+    nodes: &mut Vec<Numbers<L>>,
+) -> Result<(), Fault> {
+    for partition in 0..config.partitions {
+        let id = NodeId { replica, partition };
+        nodes.push(Node::new(alloc, config, 0, id))?;
+    }
+    Ok(())
+}
+
+impl<L: Locks + Drop> Nodes<L> {
+    /// No event has happened yet, and nothing is held back.
+    pub(crate) fn new(alloc: Global, partitions: u8, replicas: u8) -> Result<Nodes<L>, Fault> {
+        let config = Config::new(partitions, replicas)?;
+        let mut nodes = Vec::new(alloc);
+        for replica in 0..replicas {
+            add_replica(alloc, &config, replica, &mut nodes)?;
+        }
+        let sent = Outbox::new(alloc);
+        Ok(Nodes {
+            alloc,
+            config,
+            nodes,
+            sent,
+        })
+    }
+
+    /// The node of a number, to be asked.
+    pub(crate) fn node(&self, number: usize) -> Result<&Numbers<L>, Fault> {
+        self.nodes.get(number).ok_or(Fault::NoNode)
+    }
+
+    /// All packets.
+    pub(crate) fn packets(&self) -> &[Sent] {
+        self.sent.packets()
+    }
+
+    /// Hands a packet to the node that it is for.
+    fn deliver(&mut self, number: usize) -> Result<(), Fault> {
+        let Some(packet) = self.sent.packets().get(number) else {
+            return Err(Fault::NoPacket);
+        };
+        let packet = Packet {
+            from: packet.from,
+            to: packet.to,
+            content: packet.content.copy()?,
+        };
+        for node in self.nodes.iter_mut() {
+            if packet.to.is_for(node.id()) {
+                return node.handle(&packet, &mut self.sent);
+            }
+        }
+        Err(Fault::NotMine)
+    }
+
+    /// An event of a node happens.
+    fn happen(&mut self, number: usize, step: &Step) -> Result<(), Fault> {
+        let Some(node) = self.nodes.get_mut(number) else {
+            return Err(Fault::NoNode);
+        };
+        let sent = &mut self.sent;
+        match step {
+            Step::Submit(_, number, args) => node.submit(request(*number, *args)),
+            Step::Close(_) => node.close(),
+            Step::Propose(_, epoch) => node.propose(*epoch, sent),
+            Step::Deliver(_) | Step::Reopen => Err(Fault::NoNode),
+            Step::Merge(_) => node.merge(),
+            Step::Lock(_) => node.lock_next(),
+            Step::Begin(_, place) => node.begin(*place, sent),
+            Step::Finish(_, place) => {
+                let computed = node.job(*place)?.compute(&Kv);
+                node.finish(&computed, sent)
+            }
+            Step::Snapshot(_, epoch) => node.snapshot(*epoch),
+            Step::AskReads(_, place, replica) => node.ask_reads(*place, *replica, sent),
+            Step::AskBatch(_, slot, of) => node.ask_batch(*slot, *of, sent),
+            Step::Restart(_) => node.restart(),
+        }
+    }
+
+    /// The last node is opened anew from its durable record.
+    fn reopen(&mut self) -> Result<(), Fault> {
+        let Some(node) = self.nodes.pop() else {
+            return Err(Fault::NoNode);
+        };
+        let id = node.id();
+        match Node::from_durable(self.alloc, &self.config, 0, id, node.into_durable()) {
+            Ok(node) => {
+                self.nodes.push(node)?;
+                Ok(())
+            }
+            Err((fault, _record)) => Err(fault),
+        }
+    }
+
+    /// A node's own event happens, by its name.
+    pub(crate) fn act(&mut self, number: usize, act: &Act<KvRequest>) -> Result<(), Fault> {
+        let Some(node) = self.nodes.get_mut(number) else {
+            return Err(Fault::NoNode);
+        };
+        node.act(act, &Kv, &mut self.sent)
+    }
+
+    /// Delivers all packets from a number on in turn, those too that are sent meanwhile. What is refused is lost.
+    pub(crate) fn settle(&mut self, first: usize) {
+        for number in first..MOST_PACKETS {
+            if number >= self.packets().len() {
+                return;
+            }
+            let _outcome = self.deliver(number);
+        }
+    }
+
+    /// An event happens.
+    pub(crate) fn step(&mut self, step: &Step) -> Result<(), Fault> {
+        match step {
+            Step::Deliver(number) => self.deliver(*number),
+            Step::Reopen => self.reopen(),
+            Step::Submit(node, ..)
+            | Step::Close(node)
+            | Step::Propose(node, _)
+            | Step::Merge(node)
+            | Step::Lock(node)
+            | Step::Begin(node, _)
+            | Step::Finish(node, _)
+            | Step::Snapshot(node, _)
+            | Step::AskReads(node, ..)
+            | Step::AskBatch(node, ..)
+            | Step::Restart(node) => self.happen(*node, step),
+        }
+    }
+
+    /// Events happen one after another, and each takes effect.
+    pub(crate) fn run(&mut self, rt: &impl Abort, steps: &[Step]) {
+        for (i, step) in steps.iter().enumerate() {
+            assert_eq!(rt; number_of(self.step(step)), 0, "step {i}");
+        }
+    }
+
+    /// How often a packet was sent, from the number `first` on and before the number `last`.
+    pub(crate) fn times(&self, first: usize, last: usize, packet: &Sent) -> usize {
+        let mut times: usize = 0;
+        for number in first..last {
+            if let Some(sent) = self.packets().get(number) {
+                if is_same(sent, packet) {
+                    times = times.saturating_add(1);
+                }
+            }
+        }
+        times
+    }
+
+    /// Whether the packet of a number is for this node.
+    pub(crate) fn is_for(&self, number: usize, id: NodeId) -> bool {
+        match self.packets().get(number) {
+            Some(packet) => packet.to.is_for(id),
+            None => false,
+        }
+    }
+
+    /// A node stands at the end of this epoch, with so many rows.
+    pub(crate) fn check_stands(
+        &self,
+        rt: &impl Abort,
+        number: usize,
+        epoch: Option<u64>,
+        rows: usize,
+    ) {
+        match self.nodes.get(number) {
+            Some(node) => {
+                assert_eq!(rt; node.stands_at(), epoch, "node {number}");
+                assert_eq!(rt; node.rows().len(), rows, "node {number}");
+            }
+            None => assert!(rt; false, "node {number}"),
+        }
+    }
+
+    /// An event is refused with this number.
+    pub(crate) fn refuse(&mut self, rt: &impl Abort, step: Step, number: u8) {
+        assert_eq!(rt; number_of(self.step(&step)), number);
+    }
+
+    /// The packet of this number is this one.
+    pub(crate) fn check_sent(&self, rt: &impl Abort, number: usize, packet: &Sent) {
+        match self.packets().get(number) {
+            Some(sent) => assert!(rt; is_same(sent, packet), "packet {number}"),
+            None => assert!(rt; false, "packet {number}"),
+        }
+    }
+}
+
+/// The number of a refusal, or 0.
+pub(crate) fn number_of(outcome: Result<(), Fault>) -> u8 {
+    match outcome {
+        Ok(()) => 0,
+        Err(fault) => fault.number(),
+    }
+}

@@ -1,0 +1,72 @@
+//! Requests, batches and packets, to be handed in and compared.
+use calvin_app::{Kv, KvReply, KvRequest};
+use calvin_node::{Address, Content, Packet};
+use calvin_synod::Message;
+use calvin_types::{Ballot, Batch, Fault, Key, KeySet, NodeId, Place, RequestId, Sets, Slot, Txn};
+use std::alloc::Global;
+
+/// What nodes that run numbers by key send.
+pub(crate) type Sent = Packet<KvRequest, u64, KvReply>;
+
+/// What is said by such a packet.
+pub(crate) type Said = Content<KvRequest, u64, KvReply>;
+
+/// A message of such nodes' synods.
+pub(crate) type Letter = Message<Batch<KvRequest>>;
+
+/// A key of table 0.
+pub(crate) fn key(id: u64) -> Key {
+    Key { table: 0, id }
+}
+
+pub(crate) fn place(epoch: u64, n: u32) -> Place {
+    Place { epoch, n }
+}
+
+/// A request of client 7, with the sets that it needs where no row is known.
+pub(crate) fn request(number: u32, args: KvRequest) -> Txn<KvRequest> {
+    let mut sets = Sets {
+        reads: KeySet::new(),
+        writes: KeySet::new(),
+    };
+    args.add_first_needs(&mut sets);
+    let id = RequestId { client: 7, number };
+    Txn {
+        id,
+        attempt: 1,
+        args,
+        sets,
+    }
+}
+
+/// The batch of one request.
+pub(crate) fn batch_of(alloc: Global, txn: Txn<KvRequest>) -> Result<Batch<KvRequest>, Fault> {
+    let mut txns = Vec::new(alloc);
+    txns.push(txn)?;
+    Batch::new(alloc, txns)
+}
+
+/// Whether two packets say the same.
+fn says_same(one: &Said, other: &Said) -> bool {
+    match (one, other) {
+        (Content::Synod(one), Content::Synod(other)) => one == other,
+        (Content::Decided(one, batch), Content::Decided(other, other_batch)) => {
+            one == other && batch == other_batch
+        }
+        (Content::AskBatch(one), Content::AskBatch(other)) => one == other,
+        (Content::Reads(one, rows), Content::Reads(other, other_rows)) => {
+            one == other && rows.is_same(other_rows)
+        }
+        (Content::AskReads(one), Content::AskReads(other)) => one == other,
+        (Content::Warm(one), Content::Warm(other)) => one == other,
+        (Content::Replies(one, id, attempt, answer), Content::Replies(other, name, try_, told)) => {
+            one == other && id == name && attempt == try_ && answer == told
+        }
+        _ => false,
+    }
+}
+
+/// Whether two packets are the same.
+pub(crate) fn is_same(one: &Sent, other: &Sent) -> bool {
+    one.from == other.from && one.to == other.to && says_same(&one.content, &other.content)
+}
