@@ -28,3 +28,10 @@ pub mod PointCases
 pub mod Woven
 pub mod Records
 pub mod Growing
+pub mod NonePast
+pub mod SettledNodes
+pub mod SettledEvents
+pub mod SettledPromises
+pub mod SettledLaws
+pub mod SettledCalls
+pub mod InCode

@@ -1,0 +1,180 @@
+//! The world in code.
+ghost use Rattle.std.specs.Prelude.{◌≡◌, ◌<◌, ◌*◌, ◌/◌, ◌%◌, length, IfOk, OnErr, IsOkUnless, MatchOption, None, Some, slice_get};
+ghost use Rattle.calvin_node.specs.Running.{config_of};
+ghost use Rattle.calvin_world.specs.declared.event.Event.TheVariants.{At, Deliver};
+ghost use Rattle.calvin_world.specs.Promises.{Agrees, IsSerial, PointsAreSerial, StandAlike};
+ghost use Rattle.calvin_world.specs.SettledWorlds.{settled_world, outcome_of, SettledStep, SettledLeads};
+ghost use Rattle.calvin_world.specs.Worlds.{WorldState, index_of, node_at, opening};
+
+use crate::event::{Event, Outcome};
+use calvin_app::App;
+use calvin_lock::Locks;
+use calvin_node::{Act, Address, Node, Outbox, Packet};
+use calvin_store::Rows;
+use calvin_types::{Config, Fault, NodeId};
+use std::alloc::Global;
+use std::marker::Model;
+
+/// All nodes of a store, replica by replica, and every packet that was ever sent, numbered from 0. Its events happen one after
+/// another. Whatever they are, the nodes agree on each batch, and every replica is the serial run of what is chosen (Thomson
+/// et al. 2012, section 3; "Paxos Made Simple", section 2).
+#[derive(Drop)]
+pub struct World<A: App + Drop, L: Locks + Drop, S: Rows<A::Row> + Drop> {
+    alloc: Global,
+    app: A,
+    config: Config,
+    delay: u8,
+    nodes: Vec<Node<A, L, S>>,
+    packets: Outbox<A>,
+}
+
+impl<A: App + Drop, L: Locks + Drop, S: Rows<A::Row> + Drop> Model for World<A, L, S> {
+    ghost use Rattle.std.specs.Coded.{codes};
+    ghost use Rattle.std.specs.FinMap.{code};
+    ghost use Rattle.calvin_node.specs.Running.{config_of};
+    ghost use Rattle.calvin_world.specs.Worlds.{WorldState};
+    ghost use Rattle.calvin_world.specs.RunningWorlds.{world_of, IsOpened, IsReached};
+
+    ghost Value = { WorldState A.Args A.Row A.Reply };
+
+    ghost coded = { Prim.hlevel (codes, code) };
+
+    ghost view = { λ w. world_of (config_of w.config.partitions w.config.replicas S.points S.cold w.delay) w.nodes.items w.packets.packets };
+
+    ghost invariant = { λ w. IsOpened (config_of w.config.partitions w.config.replicas S.points S.cold w.delay) w.nodes.items
+        × IsReached A.meaning (world_of (config_of w.config.partitions w.config.replicas S.points S.cold w.delay) w.nodes.items w.packets.packets) };
+}
+
+impl<A: App + Drop, L: Locks + Drop, S: Rows<A::Row> + Drop> World<A, L, S> {
+    /// A store of new nodes, which have sent nothing. A request that may touch cold rows is held back for `delay` closings.
+    /// Refused with `OutOfMemory` where there was no room for the nodes.
+    pub fn new(alloc: Global, config: &Config, delay: u8, app: A) -> Result<World<A, L, S>, Fault>
+        ensures ok { IfOk result (λ w. w ≡ opening (config_of config.now.partitions config.now.replicas S.points S.cold delay)) }
+        ensures only { IsOkUnless result Fault.OutOfMemory }
+    {
+        let mut nodes = Vec::new(alloc);
+        let number = config.replicas as usize * config.partitions as usize;
+        for i in 0..number {
+            nodes.push(Node::new(alloc, config, delay, id_at(config, i)))?;
+        }
+        Ok(World {
+            alloc,
+            app,
+            config: *config,
+            delay,
+            nodes,
+            packets: Outbox::new(alloc),
+        })
+    }
+
+    /// Every packet that was ever sent, in the order in which they were sent.
+    pub fn packets(&self) -> &[Packet<A::Args, A::Row, A::Reply>]
+        ensures { result.now ≡ self.now.packets }
+    {
+        self.packets.packets()
+    }
+
+    /// Where a node stands among all, if it is there.
+    fn index(&self, id: NodeId) -> Option<usize>
+        ensures { MatchOption result (node_at self.now id ≡ None) (λ at. (at ≡ index_of self.now.config.partitions id) × (at < length self.now.nodes) × (node_at self.now id ≡ slice_get self.now.nodes at)) }
+    {
+        if id.replica < self.config.replicas && id.partition < self.config.partitions {
+            let before = id.replica as usize * self.config.partitions as usize;
+            return Some(before + id.partition as usize);
+        }
+        None
+    }
+
+    /// A node, if it is there.
+    pub fn node(&self, id: NodeId) -> Option<&Node<A, L, S>>
+        ensures { MatchOption result (node_at self.now id ≡ None) (λ node. node_at self.now id ≡ Some node.now.state) }
+    {
+        let at = self.index(id)?;
+        self.nodes.get(at)
+    }
+
+    /// One event happens. Refused with `NoNode` where it is of a node that isn't there, with `NoPacket` where no packet has its
+    /// number, with `NotMine` where the packet is for a client, with what the node refuses; else with `OutOfMemory` where a
+    /// growth was refused or a batch can have no more owners. Where it is refused nothing changed.
+    pub fn step(&mut self, event: &Event<A::Args>) -> Result<(), Fault>
+        ensures { SettledStep A.meaning self.old event.now (outcome_of result) self.new }
+    {
+        match event {
+            Event::At(id, act) => self.act(*id, act),
+            Event::Deliver(number) => self.deliver(*number),
+        }
+    }
+
+    /// Lets events happen one after another, and says how each ended: they go on after one that is refused. Refused with
+    /// `OutOfMemory` where there was no room for that: then none happened. Whatever ran before, what is promised holds.
+    pub fn run(&mut self, events: &[Event<A::Args>]) -> Result<Vec<Outcome>, Fault>
+        ensures ran { IfOk result (λ outcomes. SettledLeads A.meaning self.old events.now outcomes.items self.new) }
+        ensures err { OnErr result (self.new ≡ self.old) }
+        ensures only { IsOkUnless result Fault.OutOfMemory }
+        // No two nodes hold different batches for one slot, and what a node holds is chosen.
+        ensures agrees { (w : WorldState A.Args A.Row A.Reply) × Agrees w × (self.new ≡ settled_world w) }
+        // Every replica is the serial run of what is chosen.
+        ensures serial { IsSerial A.meaning self.new }
+        ensures points { PointsAreSerial A.meaning self.new }
+        ensures alike { StandAlike self.new }
+    {
+        let mut outcomes = Vec::with_capacity(self.alloc, events.len())?;
+        for event in events {
+            outcomes.push_reserved(outcome_of(self.step(event)));
+        }
+        Ok(outcomes)
+    }
+
+    /// One of a node's own events.
+    fn act(&mut self, id: NodeId, act: &Act<A::Args>) -> Result<(), Fault>
+        ensures { SettledStep A.meaning self.old (At id act.now) (outcome_of result) self.new }
+    {
+        let Some(at) = self.index(id) else {
+            return Err(Fault::NoNode);
+        };
+        self.nodes[at].act(act, &self.app, &mut self.packets)
+    }
+
+    /// A packet comes to the node that it is for, and stays.
+    fn deliver(&mut self, number: usize) -> Result<(), Fault>
+        ensures { SettledStep A.meaning self.old (Deliver number) (outcome_of result) self.new }
+    {
+        let packets = self.packets.packets();
+        if number >= packets.len() {
+            return Err(Fault::NoPacket);
+        }
+        let Address::AtNode(id) = packets[number].to else {
+            return Err(Fault::NotMine);
+        };
+        let Some(at) = self.index(id) else {
+            return Err(Fault::NoNode);
+        };
+        let Some(packet) = self.packets.lend(number) else {
+            return Err(Fault::NoPacket);
+        };
+        let result = self.nodes[at].handle(&packet, &mut self.packets);
+        self.packets.put_back(number, packet);
+        result
+    }
+}
+
+fn outcome_of(answer: Result<(), Fault>) -> Outcome
+    ensures { result ≡ outcome_of answer }
+{
+    match answer {
+        Ok(()) => Outcome::Done,
+        Err(fault) => Outcome::Refused(fault),
+    }
+}
+
+/// The name of the node that stands at a place among all.
+fn id_at(config: &Config, at: usize) -> NodeId
+    requires { at < config.now.replicas * config.now.partitions }
+    ensures { result ≡ record { replica = at / config.now.partitions; partition = at % config.now.partitions } }
+{
+    let partitions = config.partitions as usize;
+    NodeId {
+        replica: (at / partitions) as u8,
+        partition: (at % partitions) as u8,
+    }
+}
