@@ -34,4 +34,5 @@ pub mod SettledEvents
 pub mod SettledPromises
 pub mod SettledLaws
 pub mod SettledCalls
+pub mod Led
 pub mod InCode

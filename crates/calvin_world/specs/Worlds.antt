@@ -2,10 +2,13 @@
 -- may be delivered late, again or never; whatever is delivered was sent ("Paxos Made Simple", section 2.1: messages take
 -- arbitrarily long, are duplicated and lost, but not corrupted; Thomson et al. 2012, section 3: replicas, each divided into
 -- partitions).
-use Rattle.std.specs.Prelude.{◌≡◌, ℕ, Bool, true, false, ◌+◌, ◌*◌, ◌/◌, ◌%◌, ◌&&◌, nat_lt, if◌then◌else◌, List, [], ◌∷◌, ◌++◌, map, Option, Some, None, ◌⊎◌, ⊤, slice_get, slice_set}
+use Rattle.std.specs.Prelude.{◌≡◌, ℕ, Bool, true, false, ◌+◌, ◌*◌, ◌/◌, ◌%◌, ◌&&◌, nat_lt, if◌then◌else◌, List, [], ◌∷◌, ◌++◌, map, Option, Some, None, option_and_then, ◌⊎◌, ⊤, slice_get, slice_set}
+use Rattle.std.specs.FinMap.{get}
 use Rattle.std.specs.List.{range_with_len}
 use Rattle.calvin_types.specs.declared.fault.Fault.TheVariants.{OutOfMemory, NoNode, NoPacket, NotMine}
+use Rattle.calvin_types.specs.declared.key.Key.{Key}
 use Rattle.calvin_types.specs.declared.place.NodeId.{NodeId}
+use Rattle.calvin_types.specs.Keys.{partition_of}
 use Rattle.calvin_types.specs.Deeds.{Refuses, Does}
 use Rattle.calvin_app.specs.Meaning.{Meaning}
 use Rattle.calvin_order.specs.Configs.{Config}
@@ -50,6 +53,10 @@ module _ {Args Row Reply : Type 0} where
   -- the node, if it is there
   abbrev pub node_at : WorldState Args Row Reply → NodeId → Option (NodeState Args Row)
   node_at w id = if nat_lt id.replica w.config.replicas && nat_lt id.partition w.config.partitions then slice_get w.nodes (index_of w.config.partitions id) else None
+
+  -- the row of a key at a replica, if the replica is there and the node of the key's partition has one
+  abbrev pub peek : WorldState Args Row Reply → ℕ → Key → Option Row
+  peek w replica key = option_and_then (λ x. get x.scheduler.store.map key) (node_at w (record { replica = replica; partition = partition_of w.config.partitions key }))
 
   -- how a deed of a node ends, and the world after it: a refusal changes nothing; else the node is what the deed says, and its packets are sent
   abbrev pub carry_out : WorldState Args Row Reply → NodeId → NodeDeed Args Row Reply → Outcome × WorldState Args Row Reply

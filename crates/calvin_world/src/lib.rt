@@ -19,7 +19,7 @@ pub use order::{all_are_woven, kept_order_same_rows};
 pub use serial::{points_are_serial, replicas_are_serial, standing_alike};
 pub use settled::{
     settled_calls, settled_chosen_stays, settled_is_serial, settled_leads, settled_nodes_are_there,
-    settled_stands, settled_was_submitted,
+    settled_stands, settled_through, settled_was_submitted,
 };
 pub use steps::{nothing_to_deliver, pending_can_be_locked, what_grows_nothing_is_silent};
 pub use worked::{
@@ -28,4 +28,4 @@ pub use worked::{
     refused_events, refused_over_a_point, refused_without_tables, reply_not_deliverable,
     restart_between_phases, snapshot_by_a_point, snapshot_then_restart, snapshot_without_mark,
 };
-pub use world::World;
+pub use world::{World, outcome_of};

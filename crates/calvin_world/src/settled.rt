@@ -31,6 +31,7 @@ ghost use Rattle.calvin_world.specs.declared.event.Event.TheVariants.{At, Delive
 ghost use Rattle.calvin_world.specs.declared.event.Outcome.{Outcome};
 ghost use Rattle.calvin_world.specs.Worlds.{WorldState, opening, node_at, Leads};
 ghost use Rattle.calvin_world.specs.SettledWorlds.{settled_world, outcome_of, called, SettledStep, SettledLeads};
+ghost use Rattle.calvin_world.specs.Through.{through, WithoutWant};
 ghost use Rattle.calvin_world.specs.Promises.{IsNode, Chosen, IsChosenUpTo, IsSubmitFor, Submits, Sometime, Agrees, IsSerial, PointsAreSerial, StandAlike};
 
 use calvin_app::App;
@@ -45,6 +46,13 @@ pub fn settled_leads<Args, Row, Reply>()
         → (later : List (Event Args)) (more : List Outcome) (v : WorldState Args Row Reply) → SettledLeads m (settled_world w) later more v
         → (x : WorldState Args Row Reply) × Leads m w later more x × (v ≡ settled_world x) }
     ensures reaches { (m : Meaning Args Row Reply) (c : Config) (events : List (Event Args)) (outcomes : List Outcome) (w : WorldState Args Row Reply) → Leads m (opening c) events outcomes w → SettledLeads m (opening c) events outcomes (settled_world w) }
+{}
+
+/// Where memory never runs out each event of a world in code ends as its case says, and the world is the one that the cases lead
+/// to, settled.
+pub fn settled_through<Args, Row, Reply>()
+    ensures { (m : Meaning Args Row Reply) (c : Config) (events : List (Event Args)) (outcomes : List Outcome) (v : WorldState Args Row Reply) → SettledLeads m (opening c) events outcomes v → WithoutWant outcomes
+        → (outcomes ≡ (through m (opening c) events).0) × (v ≡ settled_world (through m (opening c) events).1) }
 {}
 
 /// Where every node is settled, a call of one of them that did what its deed says is a step of the world in code: for an act of

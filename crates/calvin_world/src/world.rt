@@ -4,14 +4,14 @@ ghost use Rattle.calvin_node.specs.Running.{config_of};
 ghost use Rattle.calvin_world.specs.declared.event.Event.TheVariants.{At, Deliver};
 ghost use Rattle.calvin_world.specs.Promises.{Agrees, IsSerial, PointsAreSerial, StandAlike};
 ghost use Rattle.calvin_world.specs.SettledWorlds.{settled_world, outcome_of, SettledStep, SettledLeads};
-ghost use Rattle.calvin_world.specs.Worlds.{WorldState, index_of, node_at, opening};
+ghost use Rattle.calvin_world.specs.Worlds.{WorldState, index_of, node_at, peek, opening};
 
 use crate::event::{Event, Outcome};
 use calvin_app::App;
 use calvin_lock::Locks;
 use calvin_node::{Act, Address, Node, Outbox, Packet};
 use calvin_store::Rows;
-use calvin_types::{Config, Fault, NodeId};
+use calvin_types::{Config, Fault, Key, NodeId};
 use std::alloc::Global;
 use std::marker::Model;
 
@@ -85,12 +85,30 @@ impl<A: App + Drop, L: Locks + Drop, S: Rows<A::Row> + Drop> World<A, L, S> {
         None
     }
 
+    /// How many partitions and replicas it has.
+    pub fn config(&self) -> &Config
+        ensures partitions { result.now.partitions ≡ self.now.config.partitions }
+        ensures replicas { result.now.replicas ≡ self.now.config.replicas }
+    {
+        &self.config
+    }
+
     /// A node, if it is there.
     pub fn node(&self, id: NodeId) -> Option<&Node<A, L, S>>
         ensures { MatchOption result (node_at self.now id ≡ None) (λ node. node_at self.now id ≡ Some node.now.state) }
     {
         let at = self.index(id)?;
         self.nodes.get(at)
+    }
+
+    /// The row of a key as it stands at a replica now, at the node of the key's partition. There is none where the replica isn't
+    /// there.
+    pub fn peek(&self, replica: u8, key: &Key) -> Option<A::Row>
+        ensures { result ≡ peek self.now replica key.now }
+    {
+        let partition = self.config.partition_of(key);
+        let node = self.node(NodeId { replica, partition })?;
+        node.rows().get(key)
     }
 
     /// One event happens. Refused with `NoNode` where it is of a node that isn't there, with `NoPacket` where no packet has its
@@ -158,7 +176,8 @@ impl<A: App + Drop, L: Locks + Drop, S: Rows<A::Row> + Drop> World<A, L, S> {
     }
 }
 
-fn outcome_of(answer: Result<(), Fault>) -> Outcome
+/// How an event ended, by what its call answered.
+pub fn outcome_of(answer: Result<(), Fault>) -> Outcome
     ensures { result ≡ outcome_of answer }
 {
     match answer {
