@@ -8,8 +8,8 @@ use Rattle.calvin_types.specs.declared.fault.Fault.{Fault}
 use Rattle.calvin_types.specs.declared.fault.Fault.TheVariants.{OutOfMemory, ReadFailed, WriteFailed}
 use Rattle.calvin_edge.specs.declared.source.Source as source
 use Rattle.calvin_edge.specs.declared.sink.Sink as sink
+use Rattle.calvin_edge.specs.Answering.{HasText, HasBeginning}
 use Rattle.calvin_edge.specs.Complaints.{complaint}
-use Rattle.calvin_serial.specs.Engine.{HasText, HasBeginning}
 use Rattle.calvin.specs.Statuses.{status_of}
 
 pub record Tells (old new : Option (List ℕ)) (failures later : ℕ) (line : List ℕ) : Type 0 where

@@ -1,3 +1,4 @@
+pub mod Answering
 pub mod Complaints
 pub mod Devices
 pub mod Tallies

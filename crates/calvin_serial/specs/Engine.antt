@@ -4,13 +4,9 @@
 --     text_for m grammar show sets d      the text for the JSON of a script for an application, or why there is none
 --     text_in sets d      the same for the application that it names
 --     serial_text sets bytes      the text for the bytes of a script, or why there is none
---     HasText answer P      there is a text, and it is so
---     HasBeginning answer old new      a proper beginning of the text went out
---     Refuses fault answer      why there is no text, where the script is at fault
 --     IsSerialFault fault      a fault that the engine may end with, whatever its source and its sink are
-use Rattle.std.specs.Prelude.{◌≡◌, ℕ, ◌<◌, List, ◌++◌, length, map, take, if◌then◌else◌, nat_lt, Option, Some, None, Result, Ok, Err}
+use Rattle.std.specs.Prelude.{ℕ, List, ◌++◌, length, map, if◌then◌else◌, nat_lt, Option, Some, None, Result, Ok, Err}
 use Rattle.std.specs.FinMap.{empty}
-use Rattle.std.specs.Io.KnownBytes.{Appends}
 use Rattle.calvin_types.specs.declared.fault.Fault.{Fault}
 use Rattle.calvin_types.specs.declared.fault.Fault.TheVariants.{OutOfMemory, BadJson, BadScript, ScriptTooLong, ReadFailed, WriteFailed}
 use Rattle.calvin_edge.specs.declared.reading.TheConstants.{MOST_BYTES}
@@ -49,22 +45,6 @@ text_in sets d = text_by sets d (app_of d)
 
 abbrev pub serial_text : UndeclaredSets → List ℕ → Result (List ℕ) Fault
 serial_text sets bytes = if nat_lt MOST_BYTES (length bytes) then Err ScriptTooLong else and_then (json bytes) (text_in sets)
-
-abbrev pub HasText : Result (List ℕ) Fault → (List ℕ → Type 0) → Type 0
-HasText (Ok text) P = P text
-HasText (Err fault) P = ⊥
-
-abbrev pub HasBeginning : Result (List ℕ) Fault → Option (List ℕ) → Option (List ℕ) → Type 0
-HasBeginning answer old new = HasText answer (λ text. (n : ℕ) × (n < length text) × Appends old new (take n text))
-
-abbrev pub Refuses : Fault → Result (List ℕ) Fault → Type 0
-Refuses OutOfMemory answer = Unit {0}
-Refuses BadJson answer = answer ≡ Err BadJson
-Refuses BadScript answer = answer ≡ Err BadScript
-Refuses ScriptTooLong answer = answer ≡ Err ScriptTooLong
-Refuses ReadFailed answer = Unit {0}
-Refuses WriteFailed answer = HasText answer (λ _. Unit {0})
-Refuses fault answer = ⊥
 
 -- want of memory, a script that is refused, or a device that failed
 abbrev pub IsSerialFault : Fault → Type 0

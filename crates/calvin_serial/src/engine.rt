@@ -1,12 +1,13 @@
 //! The engine `serial`: a script in, the text of its serial run out.
 ghost use Rattle.std.specs.Prelude.{◌≡◌, ◌≢◌, ◌+◌, ◌≤◌, ◌<◌, ◌++◌, [], ℕ, suc, length, map, IfOk, IfErr, OnOk, IfSome, Ok, Err, IsErrOf, IsOkUnless};
 ghost use Rattle.std.specs.Io.KnownBytes.{Appends, IsAtEnd};
+ghost use Rattle.calvin_edge.specs.Answering.{HasText, HasBeginning, Refuses};
 ghost use Rattle.calvin_edge.specs.Devices.{ConsumesSome};
 ghost use Rattle.calvin_script.specs.Scripts.{Contents, contents};
 ghost use Rattle.calvin_script.specs.Reading.{and_then, json, script_from, Reads};
 ghost use Rattle.calvin_script.specs.Documents.{data_of};
 ghost use Rattle.calvin_serial.specs.FirstSets.{NeedsFirst};
-ghost use Rattle.calvin_serial.specs.Engine.{text_of, text_for, text_in, serial_text, HasText, HasBeginning, Refuses, IsSerialFault};
+ghost use Rattle.calvin_serial.specs.Engine.{text_of, text_for, text_in, serial_text, IsSerialFault};
 
 use crate::scouted::push_scouted_epoch;
 use crate::text::push_epoch;
