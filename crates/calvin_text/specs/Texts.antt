@@ -3,7 +3,7 @@
 --     kv_text reply, stock_text reply      a reply of Kv, a reply of Stock
 --     line show p id answer      `epoch.n client:number answer`
 --     lines show order answers      a line for each request with its answer
---     finished n      the last of n epochs
+--     finished_at last, finished n      the last line: the last epoch, if there is one; the last of n epochs
 use Rattle.std.specs.Prelude.{ℕ, zero, suc, List, [], ◌∷◌, ◌++◌, codes, decimal, Option, Some, None}
 use Rattle.std.specs.List.{flat_map}
 use Rattle.calvin_types.specs.declared.place.Place.{Place}
@@ -67,6 +67,12 @@ module _ {Reply : Type 0} (show : Reply → List ℕ) where
   lines (e ∷ es) [] = []
   lines (e ∷ es) (a ∷ answers) = line e.0 e.1.id a ++ lines es answers
 
+-- the last line: the last epoch that is finished, if there is one
+abbrev pub finished_at : Option ℕ → List ℕ
+finished_at None = codes "finished none\n"
+finished_at (Some e) = codes "finished " ++ decimal e ++ codes "\n"
+
+-- the last of n epochs
 abbrev pub finished : ℕ → List ℕ
-finished zero = codes "finished none\n"
-finished (suc e) = codes "finished " ++ decimal e ++ codes "\n"
+finished zero = finished_at None
+finished (suc e) = finished_at (Some e)

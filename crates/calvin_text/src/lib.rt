@@ -4,5 +4,5 @@
 mod line;
 mod printed;
 
-pub use line::{push_finished, push_line};
-pub use printed::Printed;
+pub use line::{push_finished, push_last, push_line};
+pub use printed::{Printed, push_number};

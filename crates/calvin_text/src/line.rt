@@ -1,6 +1,6 @@
 //! The lines of answers.
 ghost use Rattle.std.specs.Prelude.{◌≡◌, ◌++◌, OnOk, codes};
-ghost use Rattle.calvin_text.specs.Texts.{place_text, id_text, answer_text, line, finished};
+ghost use Rattle.calvin_text.specs.Texts.{place_text, id_text, answer_text, line, finished, finished_at};
 
 use crate::printed::{Printed, SHORT, push_number, put_short};
 use calvin_app::Answer;
@@ -73,14 +73,24 @@ pub fn push_line<R: Printed>(
     text.extend_from_slice(b"\n")
 }
 
-/// Adds the last line.
+/// Adds the last line: the last epoch that is finished, if there is one.
+pub fn push_last(text: &mut Vec<u8>, last: Option<u64>) -> Result<(), AllocError>
+    ensures { OnOk result (text.new.items ≡ text.old.items ++ finished_at last) }
+{
+    let Some(epoch) = last else {
+        return text.extend_from_slice(b"finished none\n");
+    };
+    text.extend_from_slice(b"finished ")?;
+    push_number(text, epoch)?;
+    text.extend_from_slice(b"\n")
+}
+
+/// Adds the last line of so many epochs.
 pub fn push_finished(text: &mut Vec<u8>, epochs: usize) -> Result<(), AllocError>
     ensures { OnOk result (text.new.items ≡ text.old.items ++ finished epochs) }
 {
     if epochs == 0 {
-        return text.extend_from_slice(b"finished none\n");
+        return push_last(text, None);
     }
-    text.extend_from_slice(b"finished ")?;
-    push_number(text, (epochs - 1) as u64)?;
-    text.extend_from_slice(b"\n")
+    push_last(text, Some((epochs - 1) as u64))
 }

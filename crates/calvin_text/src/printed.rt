@@ -69,9 +69,9 @@ pub(crate) fn put_short(text: &mut Vec<u8>, n: u32)
     text.push_reserved(digit(n % 10));
 }
 
-/// Adds a number. Most have few digits, and these are put there without a text of their own.
+/// Adds a number in decimal. Most have few digits, and these are put there without a text of their own.
 #[inline(always)]
-pub(crate) fn push_number(text: &mut Vec<u8>, n: u64) -> Result<(), AllocError>
+pub fn push_number(text: &mut Vec<u8>, n: u64) -> Result<(), AllocError>
     ensures { OnOk result (text.new.items ≡ text.old.items ++ decimal n) }
 {
     if n < SHORT as u64 {
