@@ -1,6 +1,6 @@
 //! The world in code.
-ghost use Rattle.std.specs.Prelude.{◌≡◌, ◌<◌, ◌*◌, ◌/◌, ◌%◌, length, IfOk, OnErr, IsOkUnless, MatchOption, None, Some, slice_get};
-ghost use Rattle.calvin_node.specs.Running.{config_of};
+ghost use Rattle.std.specs.Prelude.{◌≡◌, ℕ, ◌<◌, ◌*◌, ◌/◌, ◌%◌, length, map, IfOk, OnErr, IsOkUnless, MatchOption, None, Some, slice_get};
+ghost use Rattle.calvin_node.specs.Running.{Running, config_of};
 ghost use Rattle.calvin_world.specs.declared.event.Event.TheVariants.{At, Deliver};
 ghost use Rattle.calvin_world.specs.Promises.{Agrees, IsSerial, PointsAreSerial, StandAlike};
 ghost use Rattle.calvin_world.specs.SettledWorlds.{settled_world, outcome_of, SettledStep, SettledLeads};
@@ -72,6 +72,14 @@ impl<A: App + Drop, L: Locks + Drop, S: Rows<A::Row> + Drop> World<A, L, S> {
         ensures { result.now ≡ self.now.packets }
     {
         self.packets.packets()
+    }
+
+    /// All nodes, replica by replica.
+    pub fn nodes(&self) -> &[Node<A, L, S>]
+        ensures nodes { map (λ n. n.state) result.now ≡ self.now.nodes }
+        ensures config { (i : ℕ) (n : Running A.Args A.Row) → slice_get result.now i ≡ Some n → n.config ≡ self.now.config }
+    {
+        self.nodes.as_slice()
     }
 
     /// Where a node stands among all, if it is there.
