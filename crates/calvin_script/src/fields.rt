@@ -30,7 +30,7 @@ fn are_among(members: &Map<String, Value>, names: &[&str]) -> bool
 }
 
 /// Whether it is an object with no other members than these.
-pub(crate) fn has_only(value: &Value, names: &[&str]) -> bool
+pub fn has_only(value: &Value, names: &[&str]) -> bool
     ensures { result ≡ has_only (map (λ name. name.now) names.now) (view value.now) }
 {
     match value.as_object() {
@@ -39,31 +39,31 @@ pub(crate) fn has_only(value: &Value, names: &[&str]) -> bool
     }
 }
 
-/// A whole number below 2^64.
+/// The whole number below 2^64 that a piece of JSON spells.
 pub(crate) fn u64_of(value: &Value) -> Option<u64>
     ensures { result ≡ below (2 ^ 64) (view value.now) }
 {
     value.as_u64()
 }
 
-/// A whole number below 2^32.
-pub(crate) fn u32_of(value: &Value) -> Option<u32>
+/// The whole number below 2^32 that a piece of JSON spells.
+pub fn u32_of(value: &Value) -> Option<u32>
     ensures { result ≡ below (2 ^ 32) (view value.now) }
 {
     let n = value.as_u64()?;
     u32::try_from(n).ok()
 }
 
-/// A whole number below 256.
-pub(crate) fn u8_of(value: &Value) -> Option<u8>
+/// The whole number below 256 that a piece of JSON spells.
+pub fn u8_of(value: &Value) -> Option<u8>
     ensures { result ≡ below (2 ^ 8) (view value.now) }
 {
     let n = value.as_u64()?;
     u8::try_from(n).ok()
 }
 
-/// A whole number from the least to the most.
-pub(crate) fn between(least: u8, most: u8, value: &Value) -> Option<u8>
+/// The whole number from the least to the most that a piece of JSON spells.
+pub fn between(least: u8, most: u8, value: &Value) -> Option<u8>
     ensures { result ≡ between least most (view value.now) }
 {
     let n = value.as_u64()?;

@@ -10,7 +10,7 @@ use serde_json::Value;
 use std::alloc::Global;
 
 /// What JSON can spell.
-pub(crate) trait Spelled: Drop {
+pub trait Spelled: Drop {
     /// What a value is, apart from where it lies in memory.
     ghost Meaning: { Type 0 };
 
@@ -27,7 +27,7 @@ pub(crate) trait Spelled: Drop {
 }
 
 /// The list that a piece of JSON spells. Refused with `BadScript` where it spells none, and with `OutOfMemory`.
-pub(crate) fn list_of<T: Spelled>(alloc: Global, value: Value) -> Result<Vec<T>, Fault>
+pub fn list_of<T: Spelled>(alloc: Global, value: Value) -> Result<Vec<T>, Fault>
     ensures { Gives (λ v. map T.meaning v.items) result (list T.spelled (view value)) }
 {
     let Value::Array(items) = value else {

@@ -6,9 +6,9 @@ ghost use Rattle.calvin_script.specs.Numbers.{one_number, two_numbers, three_num
 use crate::fields::u64_of;
 use serde_json::Value;
 
-/// The number that follows the name of an operation.
+/// The number below 2^64 that follows a name, in a list of these two.
 #[tactic(auto, unfolding(crate::specs::Numbers::one_number))]
-pub(crate) fn one_number(value: &Value) -> Option<u64>
+pub fn one_number(value: &Value) -> Option<u64>
     ensures { result ≡ one_number (view value.now) }
 {
     if value.get(2).is_some() {

@@ -59,6 +59,13 @@ impl Document {
         None
     }
 
+    /// The JSON itself, for other forms than that of a script of batches.
+    pub fn into_value(self) -> Value
+        ensures { view result ≡ data_of self }
+    {
+        self.value
+    }
+
     /// The script that it is, for an application. Refused with `BadScript` where it doesn't have the form of a script
     /// for this application, and with `OutOfMemory`.
     #[tactic(auto, using(crate::proofs::Refusals::script_read))]

@@ -1,9 +1,9 @@
 //! Requests.
 ghost use Rattle.std.specs.Prelude.{◌≡◌, ◌^◌, [], false, option_map, IfOk, IsOkUnless};
 ghost use Rattle.serde_json.specs.View.{view};
-ghost use Rattle.calvin_script.specs.Requests.{id_of, named, sets_of, request_of};
+ghost use Rattle.calvin_script.specs.Requests.{id_of, named, sets_of, request_of, request};
 ghost use Rattle.calvin_script.specs.Gives.{Gives};
-ghost use Rattle.calvin_script.specs.Spelling.{below, optional, then_one};
+ghost use Rattle.calvin_script.specs.Spelling.{below, optional};
 
 use crate::fields::{has_only, u8_of, u32_of};
 use crate::kept::Kept;
@@ -78,19 +78,18 @@ fn keep<Op: Operation>(alloc: Global, txn: &Txn<Op>, is_declared: bool) -> Resul
     Ok(Kept::new(txn.id, txn.attempt, txn.args, None))
 }
 
-/// Puts the request that members spell at the end of a list.
+/// The request that members spell.
 #[tactic(auto, unfolding(crate::specs::Requests::request_of), using(crate::proofs::KeptRequests::undeclared))]
-fn push_request<Op: Operation>(
+fn request_of<Op: Operation>(
     alloc: Global,
     needed: Needed<'_>,
     attempt: u8,
     reads: Option<&Value>,
     writes: Option<&Value>,
-    found: &mut Vec<Kept<Op>>,
-) -> Result<(), Fault>
-    ensures { Gives (λ _. found.new.items) result (then_one found.old.items (request_of Op.grammar
+) -> Result<Kept<Op>, Fault>
+    ensures { Gives (λ r. r) result (request_of Op.grammar
         (view needed.entry.client.now) (view needed.entry.number.now) (view needed.entry.op.now) attempt
-        (option_map (λ v. view v.now) reads.entry) (option_map (λ v. view v.now) writes.entry))) }
+        (option_map (λ v. view v.now) reads.entry) (option_map (λ v. view v.now) writes.entry)) }
 {
     let id = id_of(needed.client, needed.number).ok_or(Fault::BadScript)?;
     let mut txn = Txn {
@@ -103,9 +102,7 @@ fn push_request<Op: Operation>(
         },
     };
     read_named(&mut txn, needed.op, reads, writes).ok_or(Fault::BadScript)?;
-    let kept = keep(alloc, &txn, reads.is_some())?;
-    found.push(kept)?;
-    Ok(())
+    keep(alloc, &txn, reads.is_some())
 }
 
 /// The number of the attempt: 1 where none is given.
@@ -115,6 +112,41 @@ fn attempt_of(attempt: Option<&Value>) -> Option<u8>
     match attempt {
         None => Some(1),
         Some(attempt) => u8_of(attempt),
+    }
+}
+
+impl<Op: Operation> Kept<Op> {
+    /// The request that a piece of JSON spells: one that no sequencer takes has the form too. Refused with `BadScript`
+    /// where it spells none, and with `OutOfMemory`.
+    #[tactic(auto, unfolding(crate::specs::Requests::request), using(crate::proofs::Names::short_request, crate::proofs::Names::declared_request))]
+    pub fn read(alloc: Global, value: &Value) -> Result<Kept<Op>, Fault>
+        ensures { Gives (λ r. r) result (request Op.grammar (view value.now)) }
+    {
+        if let Some(needed) = needed_alone(value) {
+            return request_of(alloc, needed, 1, None, None);
+        }
+        if let Some(declared) = declared_alone(value) {
+            let (reads, writes) = (Some(declared.reads), Some(declared.writes));
+            return request_of(alloc, declared.needed, 1, reads, writes);
+        }
+        if !has_only(
+            value,
+            &["client", "number", "op", "attempt", "reads", "writes"],
+        ) {
+            return Err(Fault::BadScript);
+        }
+        let client = value.get("client").ok_or(Fault::BadScript)?;
+        let number = value.get("number").ok_or(Fault::BadScript)?;
+        let op = value.get("op").ok_or(Fault::BadScript)?;
+        let needed = Needed { client, number, op };
+        let attempt = attempt_of(value.get("attempt")).ok_or(Fault::BadScript)?;
+        request_of(
+            alloc,
+            needed,
+            attempt,
+            value.get("reads"),
+            value.get("writes"),
+        )
     }
 }
 
@@ -128,33 +160,9 @@ impl<Op: Operation> Spelled for Kept<Op> {
 
     ghost spelled = { request Op.grammar };
 
-    #[tactic(auto, unfolding(crate::specs::Requests::request), using(crate::proofs::Names::short_request, crate::proofs::Names::declared_request))]
     fn push_json(alloc: Global, value: Value, found: &mut Vec<Kept<Op>>) -> Result<(), Fault> {
-        if let Some(needed) = needed_alone(&value) {
-            return push_request(alloc, needed, 1, None, None, found);
-        }
-        if let Some(declared) = declared_alone(&value) {
-            let (reads, writes) = (Some(declared.reads), Some(declared.writes));
-            return push_request(alloc, declared.needed, 1, reads, writes, found);
-        }
-        if !has_only(
-            &value,
-            &["client", "number", "op", "attempt", "reads", "writes"],
-        ) {
-            return Err(Fault::BadScript);
-        }
-        let client = value.get("client").ok_or(Fault::BadScript)?;
-        let number = value.get("number").ok_or(Fault::BadScript)?;
-        let op = value.get("op").ok_or(Fault::BadScript)?;
-        let needed = Needed { client, number, op };
-        let attempt = attempt_of(value.get("attempt")).ok_or(Fault::BadScript)?;
-        push_request(
-            alloc,
-            needed,
-            attempt,
-            value.get("reads"),
-            value.get("writes"),
-            found,
-        )
+        let request = Kept::read(alloc, &value)?;
+        found.push(request)?;
+        Ok(())
     }
 }
