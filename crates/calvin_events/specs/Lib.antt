@@ -1,0 +1,2 @@
+pub mod EventForms
+pub mod EventScripts
