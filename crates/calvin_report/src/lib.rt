@@ -1,0 +1,10 @@
+//! What is told of a world: the lines of events, of nodes and of replies.
+#![tactic(auto)]
+
+mod nodes;
+mod outcomes;
+mod replies;
+
+pub use nodes::{finished, push_nodes};
+pub use outcomes::push_outcome;
+pub use replies::{Epochs, Replies, push_replies, replies_of};
