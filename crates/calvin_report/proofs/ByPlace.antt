@@ -71,7 +71,7 @@ module _ {X : Type 0} where
       go true is = found_find q k v es (ap (λ p. is_some (find place_cmp p es)) (one_place q k is) ∙ there)
       go false is = other_find q k v is es
 
-  find_entries : (es : List (Place × X)) (q : Place) → find place_cmp q (entries (from_entries {R = place_cmp} es)) ≡ find place_cmp q es
+  pub find_entries : (es : List (Place × X)) (q : Place) → find place_cmp q (entries (from_entries {R = place_cmp} es)) ≡ find place_cmp q es
   find_entries es q = sym (get-entries (from_entries {R = place_cmp} es) q) ∙ get-from_entries place_total es q
 
   -- of several values at a place the first one counts

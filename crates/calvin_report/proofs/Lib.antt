@@ -1,3 +1,8 @@
 pub mod ByPlace
 pub mod NodeLines
 pub mod Least
+pub mod Told
+pub mod Sent
+pub mod Keyed
+pub mod Serially
+pub mod AllStanding

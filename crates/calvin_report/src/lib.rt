@@ -4,7 +4,9 @@
 mod nodes;
 mod outcomes;
 mod replies;
+mod serial;
 
 pub use nodes::{finished, push_nodes};
 pub use outcomes::push_outcome;
 pub use replies::{Epochs, Replies, push_replies, replies_of};
+pub use serial::told_is_serial;

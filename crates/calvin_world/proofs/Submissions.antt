@@ -100,7 +100,7 @@ module _ {Args : Type 0} where
       go false at = joined_batch B e config.partitions t at
 
   -- what stands in an order is in the batch of its slot
-  stands_batch : (config : Config) (B : Assignment Args) (e n : ℕ) (q : Place) (t : Txn Args) → StandsAt (stretch config B e n) q t → (g : ℕ) × (g < config.partitions) × Contains (B (slot_at g q.epoch)) t
+  pub stands_batch : (config : Config) (B : Assignment Args) (e n : ℕ) (q : Place) (t : Txn Args) → StandsAt (stretch config B e n) q t → (g : ℕ) × (g < config.partitions) × Contains (B (slot_at g q.epoch)) t
   stands_batch config B e zero q t at = absurd at
   stands_batch config B e (suc n) q t at = elim (stands_split (merged config B e) (stretch config B (suc e) n) q t at) [
     | inl here ↦
