@@ -1,12 +1,13 @@
 -- What is printed of events and of the nodes of a world. The texts are of this project.
 --     outcome_line k outcome      how the event of a number ended: `k ok`, or `k refused` and the number of the fault
+--     outcome_lines k outcomes      how events ended, the first of which has the number k
 --     epoch_text last      an epoch, or `none`
 --     node_line id last rows      `node r.p stands e rows m`
 --     last_standing x      the last epoch at whose end a node stands, if there is one
 --     node_lines w      a line for each node, replica by replica
 --     lesser a b, least epochs      the lesser of two epochs, and the least of several; none where one of them is none
 --     least_standing w      the least of the epochs at whose ends the nodes stand
-use Rattle.std.specs.Prelude.{ℕ, List, [], ◌∷◌, ◌++◌, map, min, codes, decimal, Option, Some, None}
+use Rattle.std.specs.Prelude.{ℕ, suc, List, [], ◌∷◌, ◌++◌, map, min, codes, decimal, Option, Some, None}
 use Rattle.std.specs.List.{flat_map}
 use Rattle.std.specs.FinMap.{len}
 use Rattle.calvin_types.specs.declared.place.NodeId.{NodeId}
@@ -21,6 +22,11 @@ use Rattle.calvin_world.specs.Worlds.{WorldState}
 abbrev pub outcome_line : ℕ → Outcome → List ℕ
 outcome_line k Done = decimal k ++ codes " ok\n"
 outcome_line k (Refused fault) = decimal k ++ codes " refused " ++ decimal (number_of fault) ++ codes "\n"
+
+-- how events ended, which are numbered from k
+abbrev pub outcome_lines : ℕ → List Outcome → List ℕ
+outcome_lines k [] = []
+outcome_lines k (outcome ∷ outcomes) = outcome_line k outcome ++ outcome_lines (suc k) outcomes
 
 -- an epoch, or that there is none
 abbrev pub epoch_text : Option ℕ → List ℕ

@@ -1,6 +1,6 @@
 //! The lines of events.
 ghost use Rattle.std.specs.Prelude.{◌≡◌, ◌++◌, OnOk};
-ghost use Rattle.calvin_report.specs.Reports.{outcome_line};
+ghost use Rattle.calvin_report.specs.Reports.{outcome_line, outcome_lines};
 
 use calvin_text::push_number;
 use calvin_world::Outcome;
@@ -19,4 +19,14 @@ pub fn push_outcome(text: &mut Vec<u8>, event: usize, outcome: Outcome) -> Resul
             text.extend_from_slice(b"\n")
         }
     }
+}
+
+/// Adds how each event ended, by its number from 0.
+pub fn push_outcomes(text: &mut Vec<u8>, outcomes: &[Outcome]) -> Result<(), AllocError>
+    ensures { OnOk result (text.new.items ≡ text.old.items ++ outcome_lines 0 outcomes.now) }
+{
+    for (event, outcome) in outcomes.iter().enumerate() {
+        push_outcome(text, event, *outcome)?;
+    }
+    Ok(())
 }
