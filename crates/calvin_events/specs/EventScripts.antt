@@ -3,7 +3,7 @@
 --     texts v, world_contents s      the bytes of the texts, and what the script says, apart from where they lie in memory
 --     world_script grammar d      `{"partitions":P,"replicas":R,"app":NAME,"events":[EVENT, ..]}`, with optional `"expect":[text, ..]`
 --     world_script_in grammar d      the script of events that a piece of JSON is for an application, or BadScript
-use Rattle.std.specs.Prelude.{ℕ, List, [], ◌∷◌, map, Option, Some, None, option_and_then, option_map, Result, ok_or, codes, bytes_eq, String, string_bytes}
+use Rattle.std.specs.Prelude.{ℕ, List, [], ◌∷◌, map, Option, Some, None, option_and_then, option_map, Result, ok_or, codes, bytes_eq, string_bytes}
 use Rattle.serde_json.specs.Data.{Data}
 use Rattle.serde_json.specs.Find.{get, as_str}
 use Rattle.calvin_types.specs.declared.limits.TheConstants.{MOST_PARTITIONS, MOST_REPLICAS}
