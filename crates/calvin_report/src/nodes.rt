@@ -71,8 +71,7 @@ fn lesser(a: Option<u64>, b: Option<u64>) -> Option<u64>
     Some(a?.min(b?))
 }
 
-/// The last epoch at whose end every node stands or has stood: the least of the last epochs at whose ends they stand now. There
-/// is none where a node stands nowhere.
+/// The least of the last epochs at whose ends the nodes stand. There is none where a node stands nowhere.
 pub fn finished<A: App + Drop, L: Locks + Drop, S: Rows<A::Row> + Drop>(
     world: &World<A, L, S>,
 ) -> Option<u64>
