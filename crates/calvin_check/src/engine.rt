@@ -1,0 +1,130 @@
+//! The engine `check`: a script of events in, what they make of a world out.
+ghost use Rattle.std.specs.Prelude.{◌≡◌, ◌≢◌, ◌+◌, ◌≤◌, ℕ, true, false, IfOk, IfErr, OnOk, IfSome, Ok, Err, IsErrOf, IsOkUnless};
+ghost use Rattle.std.specs.Io.KnownBytes.{Appends, IsAtEnd};
+ghost use Rattle.calvin_edge.specs.Answering.{HasText, HasBeginning, Refuses};
+ghost use Rattle.calvin_edge.specs.Devices.{ConsumesSome};
+ghost use Rattle.calvin_script.specs.Documents.{data_of};
+ghost use Rattle.calvin_script.specs.Reading.{and_then, json, Reads};
+ghost use Rattle.calvin_events.specs.EventScripts.{world_contents};
+ghost use Rattle.calvin_check.specs.Checks.{report, is_as_expected, report_for, report_in, check_text, IsExpected, IsCheckFault};
+
+use crate::expecting::are_lines;
+use crate::running::run_events;
+use calvin_app::{App, Kv};
+use calvin_edge::{MOST_BYTES, Sink, Source, read_all, write_all};
+use calvin_events::{EventScript, event_script_of};
+use calvin_lock::QueueLocks;
+use calvin_report::{Epochs, finished, push_nodes, push_replies, replies_of};
+use calvin_script::{AppName, Document, Kept, Operation};
+use calvin_stock::Stock;
+use calvin_store::PlainRows;
+use calvin_text::{Printed, push_last};
+use calvin_types::{Config, Fault};
+use calvin_world::World;
+use std::alloc::Global;
+
+/// What is told of a script.
+#[derive(Drop)]
+struct Report {
+    text: Vec<u8>,
+    /// Whether the answers are the ones that the script expects, where it expects any.
+    is_expected: bool,
+}
+
+/// What is told of a script for an application.
+fn report_of<A: App + Drop>(
+    alloc: Global,
+    app: A,
+    script: &EventScript<Kept<A::Args>>,
+) -> Result<Report, Fault>
+where
+    A::Args: Operation,
+    A::Reply: Printed,
+    ensures told { IfOk result (λ r. (r.text.items ≡ report A.Reply.printed A.meaning (world_contents script.now))
+        × (r.is_expected ≡ is_as_expected A.Reply.printed A.meaning (world_contents script.now))) }
+    ensures only { IsOkUnless result Fault.OutOfMemory }
+{
+    let config = Config {
+        partitions: script.partitions,
+        replicas: script.replicas,
+    };
+    let mut world = World::<A, QueueLocks, PlainRows<A::Row>>::new(alloc, &config, 0, app)?;
+    let mut text = Vec::new(alloc);
+    run_events(&mut world, &script.events, &mut text)?;
+    push_nodes(&mut text, &world)?;
+    let replies = replies_of(alloc, world.packets())?;
+    push_replies(&mut text, &replies, Epochs::All)?;
+    let last = finished(&world);
+    push_last(&mut text, last)?;
+    let is_expected = match &script.expect {
+        None => true,
+        Some(texts) => are_lines(alloc, &replies, last, texts)?,
+    };
+    Ok(Report { text, is_expected })
+}
+
+/// What is told of a document for an application.
+fn report_for<A: App + Drop>(alloc: Global, app: A, document: Document) -> Result<Report, Fault>
+where
+    A::Args: Operation,
+    A::Reply: Printed,
+    ensures { Reads (λ r. (r.text.items, r.is_expected)) result (report_for A.Reply.printed A.meaning A.Args.grammar (data_of document)) }
+{
+    let script = event_script_of::<A::Args>(alloc, document)?;
+    report_of(alloc, app, &script)
+}
+
+/// What is told of the bytes of a script, for the application that it names.
+fn report_in(alloc: Global, bytes: Vec<u8>) -> Result<Report, Fault>
+    ensures { Reads (λ r. (r.text.items, r.is_expected)) result (and_then (json bytes.items) report_in) }
+{
+    let document = Document::read(alloc, &bytes)?;
+    drop(bytes);
+    match document.app() {
+        Some(AppName::Kv) => report_for(alloc, Kv, document),
+        Some(AppName::Stock) => report_for(alloc, Stock, document),
+        None => Err(Fault::BadScript),
+    }
+}
+
+/// Reads a script of events to the end of the source, lets them happen in a world, and writes how each ended, then a line for
+/// each node, then one for each place at which something was replied, and the last line. The whole text is built before any of
+/// it is written. Refused with `NotExpected` where the script expects other answers: then the whole text is written, too.
+pub fn check<S: Source, K: Sink>(alloc: Global, source: &mut S, sink: &mut K) -> Result<(), Fault>
+    // What is written is the text of what was read, whose answers are as expected.
+    ensures ok { OnOk result (IfSome (S.left source.old) (λ bytes. IsExpected true bytes × HasText (check_text bytes)
+        (λ text. Appends (K.taken sink.old) (K.taken sink.new) text))) }
+    ensures unexpected { IsErrOf result Fault.NotExpected → IfSome (S.left source.old) (λ bytes. IsExpected false bytes × HasText (check_text bytes)
+        (λ text. Appends (K.taken sink.old) (K.taken sink.new) text)) }
+    // Which fault it is: no other one comes, and a script is refused with its own.
+    ensures only { IfErr result IsCheckFault }
+    ensures refused { IfErr result (λ fault. fault ≢ Fault.NotExpected → IfSome (S.left source.old) (λ bytes.
+        Refuses fault (check_text bytes))) }
+    // Nothing is written, but where writing fails and where other answers are expected.
+    ensures untouched { IfErr result (λ fault. fault ≢ Fault.WriteFailed → fault ≢ Fault.NotExpected → sink.new ≡ sink.old) }
+    ensures beginning { IsErrOf result Fault.WriteFailed → IfSome (S.left source.old) (λ bytes.
+        HasBeginning (check_text bytes) (K.taken sink.old) (K.taken sink.new)) }
+    // All is read, or the first byte too many and none past it.
+    ensures all_read { OnOk result (IsAtEnd (S.left source.new)) }
+    ensures too_long { IsErrOf result Fault.ScriptTooLong
+        → ConsumesSome (S.left source.old) (S.left source.new) (MOST_BYTES + 1) }
+    ensures no_more { (n : ℕ) × (n ≤ MOST_BYTES + 1)
+        × ConsumesSome (S.left source.old) (S.left source.new) n }
+    // The device failed.
+    ensures read_failed { IsErrOf result Fault.ReadFailed
+        → S.failures source.new ≡ S.failures source.old + 1 }
+    ensures read_well { result ≢ Err Fault.ReadFailed
+        → S.failures source.new ≡ S.failures source.old }
+    ensures write_failed { IsErrOf result Fault.WriteFailed
+        → K.failures sink.new ≡ K.failures sink.old + 1 }
+    ensures wrote_well { result ≢ Err Fault.WriteFailed
+        → K.failures sink.new ≡ K.failures sink.old }
+{
+    let bytes = read_all(alloc, source)?;
+    let report = report_in(alloc, bytes)?;
+    write_all(sink, &report.text)?;
+    if !report.is_expected {
+        return Err(Fault::NotExpected);
+    }
+    Ok(())
+}
