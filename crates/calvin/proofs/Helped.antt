@@ -1,5 +1,5 @@
 -- A line without the word `help` is taken, answered with help, or bad: where help is among clap's errors, it is the only one.
-use Rattle.std.proofs.Common.{◌≡◌, ⊎_elim, ◌&&◌, ◌||◌, ◌==◌, ℕ, zero, suc, Bool, cond, not, true, false, true≢false, refl, sym, ap, List, [], ◌∷◌, length, codes, Option, Some, None, option_map, is_some, nat_lt}
+use Rattle.std.proofs.Common.{◌≡◌, ◌⊎◌, inl, inr, ⊎_elim, ◌&&◌, ◌||◌, ◌==◌, ℕ, zero, suc, Bool, cond, not, true, false, true≢false, refl, sym, ap, List, [], ◌∷◌, length, codes, Option, Some, None, option_map, is_some, nat_lt}
 use Rattle.std.specs.List.{Contains, find, list_any}
 use Rattle.std.specs.Option.{option_map_or}
 use Rattle.std.specs.Prelude.{slice_get}
@@ -20,8 +20,8 @@ use Rattle.clap.specs.declared.builder.action.ArgAction.TheVariants as action
 use Rattle.clap.specs.declared.error.kind.ErrorKind.{ErrorKind}
 use Rattle.clap.specs.declared.error.kind.ErrorKind.TheVariants.{DisplayHelp}
 use Rattle.clap.specs.declared.builder.value_parser.ValueParser.{ValueParser}
-use Rattle.calvin.specs.Line.{calvin, IsSerialLine, IsHelpLine, IsBadLine, HasHelpWord}
-use Rattle.calvin.proofs.Named.{is_named_line}
+use Rattle.calvin.specs.Line.{calvin, IsSerialLine, IsCheckLine, IsHelpLine, IsBadLine, HasHelpWord}
+use Rattle.calvin.proofs.Named.{is_taken_line}
 
 -- where help is among the kinds, it is the only one
 abbrev Alone : Kinds → Type 0
@@ -123,7 +123,7 @@ module _ (c : List Rule) (again : Bool) where
 plain_alone : (s : Shape) (word : Text) (h : Held) → Alone (other_fault s None word h)
 plain_alone s word h = either_way (bytes_eq word (45 ∷ 45 ∷ [])) _ _ none (flag_word_alone s.rules s.args_override_self (long_of word) word h)
 
--- ---- a word of the program's own, and of `serial`
+-- ---- a word of the program's own, and of its subcommands
 
 abbrev top : Shape
 top = (built calvin).top
@@ -131,16 +131,17 @@ top = (built calvin).top
 abbrev names : Names
 names = names_of (built calvin)
 
-met_alone : (word : Text) (h : Held) (is_serial is_help : Bool) → is_help ≡ false
-    → Alone (other_fault top (option_map (λ (s : Text × List Text). s.0) (cond is_serial (Some (codes "serial", [])) (cond is_help (Some (codes "help", [])) None))) word h)
-met_alone word h true is_help other = none
-met_alone word h false true other = absurd (true≢false other)
-met_alone word h false false other = plain_alone top word h
+met_alone : (word : Text) (h : Held) (is_serial is_check is_help : Bool) → is_help ≡ false
+    → Alone (other_fault top (option_map (λ (s : Text × List Text). s.0) (cond is_serial (Some (codes "serial", [])) (cond is_check (Some (codes "check", [])) (cond is_help (Some (codes "help", [])) None)))) word h)
+met_alone word h true is_check is_help other = none
+met_alone word h false true is_help other = none
+met_alone word h false false true other = absurd (true≢false other)
+met_alone word h false false false other = plain_alone top word h
 
 top_word_alone : (is_trailing : Bool) (waiting : Waiting) (word : Text) (h : Held) → bytes_eq (codes "help") word ≡ false → Alone (word_fault top names is_trailing waiting word h)
 top_word_alone true waiting word h other = none
 top_word_alone false idle word h other =
-    met_alone word h (answers_to word (codes "serial", [])) (answers_to word (codes "help", [])) (ap (λ b. b || false) other)
+    met_alone word h (answers_to word (codes "serial", [])) (answers_to word (codes "check", [])) (answers_to word (codes "help", [])) (ap (λ b. b || false) other)
 top_word_alone false (option id) word h other = plain_alone top word h
 top_word_alone false positional word h other = plain_alone top word h
 
@@ -249,5 +250,9 @@ is_alone words lacks =
     (walk_alone top names (λ word. bytes_eq (codes "help") word ≡ false) top_word_alone args (walk_from nothing_held) (no_help args (lacks_help args lacks)))
     (entered_alone (walk top.rules names nothing_held args).stopped)
 
-pub is_covered : (words : List Text) → ¬ HasHelpWord words → ¬ IsSerialLine words → ¬ IsHelpLine words → IsBadLine words
-is_covered words lacks serial helped = (λ taken. serial (taken, is_named_line words taken), λ among. helped (is_alone words lacks among))
+taken_covered : (words : List Text) → ¬ IsSerialLine words → ¬ IsCheckLine words → IsSerialLine words ⊎ IsCheckLine words → ⊥
+taken_covered words serial check (inl is) = serial is
+taken_covered words serial check (inr is) = check is
+
+pub is_covered : (words : List Text) → ¬ HasHelpWord words → ¬ IsSerialLine words → ¬ IsCheckLine words → ¬ IsHelpLine words → IsBadLine words
+is_covered words lacks serial check helped = (λ taken. taken_covered words serial check (is_taken_line words taken), λ among. helped (is_alone words lacks among))

@@ -2,10 +2,11 @@
 --     Tells old new failures later line      a line was written where no write failed, and else a proper beginning of it
 --     LeavesDevices from to telling .. status      what holds of every line: which device failed, what stays as it was, and what is told
 --     RunsEngine from to telling .. status text      what holds of a subcommand whose answer to its input is the text, or a refusal
-use Rattle.std.specs.Prelude.{◌≡◌, ◌≢◌, ℕ, ◌+◌, ◌<◌, List, length, take, Option, Result, Err, IfSome, IsErr, ◌⊎◌}
+--     Expects from to telling .. status text IsExpected      what holds of one whose input says which answers it expects
+use Rattle.std.specs.Prelude.{◌≡◌, ◌≢◌, Bool, true, false, ℕ, ◌+◌, ◌<◌, List, length, take, Option, Result, Err, IfSome, IsErr, ◌⊎◌}
 use Rattle.std.specs.Io.KnownBytes.{Appends}
 use Rattle.calvin_types.specs.declared.fault.Fault.{Fault}
-use Rattle.calvin_types.specs.declared.fault.Fault.TheVariants.{OutOfMemory, ReadFailed, WriteFailed}
+use Rattle.calvin_types.specs.declared.fault.Fault.TheVariants.{OutOfMemory, ReadFailed, WriteFailed, NotExpected}
 use Rattle.calvin_edge.specs.declared.source.Source as source
 use Rattle.calvin_edge.specs.declared.sink.Sink as sink
 use Rattle.calvin_edge.specs.Answering.{HasText, HasBeginning}
@@ -54,3 +55,11 @@ module _ {S K E : Type 0} (from : source.Ghosts S) (to : sink.Ghosts K) (telling
     pub told_refusal : status ≡ 2 → (fault : Fault) × (status_of fault ≡ 2) × (IfSome (from.left input) (λ bytes. text bytes ≡ Err fault)) × IsTold (complaint fault)
     -- where writing the answers failed, a proper beginning of the text is out
     pub beginning : WritingFailed → IfSome (from.left input) (λ bytes. HasBeginning (text bytes) (to.taken output) (to.taken output_after))
+
+  -- what holds of a subcommand whose input says which answers it expects
+  pub record Expects (text : List ℕ → Result (List ℕ) Fault) (IsExpected : Bool → List ℕ → Type 0) : Type 0 where
+    -- where it ended well, the answers are the expected ones
+    pub expected : status ≡ 0 → IfSome (from.left input) (IsExpected true)
+    -- where they aren't, the text is out all the same, and standard error is told
+    pub unexpected : status ≡ 3 → IfSome (from.left input) (λ bytes. IsExpected false bytes × HasText (text bytes) (λ answer. Appends (to.taken output) (to.taken output_after) answer))
+    pub told_unexpected : status ≡ 3 → IsTold (complaint NotExpected)

@@ -1,15 +1,18 @@
 //! The command line, and how a command ends.
 
-ghost use Rattle.std.specs.Prelude.{◌≡◌, ◌≢◌, ◌+◌, ◌↔◌, map, codes, false, IfOk, IfSome, IsSome, Some, ◌⊎◌};
+ghost use Rattle.std.specs.Prelude.{◌≡◌, ◌≢◌, ◌+◌, ◌↔◌, map, codes, false, true, IfOk, IfSome, IsSome, Some, ◌⊎◌};
 ghost use Rattle.clap.specs.declared.builder.command.Command.TheViews.{out-Command as fields_of};
 ghost use Rattle.clap.specs.Words.{app_of, rule_of, found_of, rows_of, subcommand_name_of, subcommand_rows_of};
 ghost use Rattle.calvin_edge.specs.Complaints.{complaint};
 ghost use Rattle.calvin_serial.specs.Engine.{serial_text};
-ghost use Rattle.calvin.specs.Ends.{Tells, LeavesDevices, RunsEngine};
-ghost use Rattle.calvin.specs.Line.{scout_flag, serial_app, calvin, IsTaken, IsSerialLine, IsHelpLine, IsBadLine, HasHelpWord, IsPlainSerialLine, IsScoutLine, has_scout, sets_of, sets_asked, IsRun, IsSerial, IsHelp, IsRefused};
+ghost use Rattle.calvin_check.specs.Checks.{check_text, IsExpected};
+ghost use Rattle.calvin.specs.Ends.{Tells, LeavesDevices, RunsEngine, Expects};
+ghost use Rattle.calvin.specs.Line.{scout_flag, serial_app, check_app, calvin, IsTaken, IsSerialLine, IsCheckLine, IsHelpLine, IsBadLine, HasHelpWord, IsPlainSerialLine, IsPlainCheckLine, IsScoutLine, has_scout, sets_of, sets_asked, IsOf, IsRun, IsSerial, IsCheck, IsHelp, IsRefused};
 ghost use Rattle.calvin.specs.Statuses.{IsStatus};
+ghost use Rattle.calvin.specs.declared.command.Wish.TheVariants.{Serial, Check};
 
 use crate::ending::{end_with, refuse_line};
+use calvin_check::check;
 use calvin_edge::{Sink, Source, write_all};
 use calvin_serial::{UndeclaredSets, serial};
 use calvin_types::Fault;
@@ -38,21 +41,48 @@ order of all groups; the last line is `finished` and the last epoch, or none.
 
 `calvin --help` lists the exit statuses.";
 
+/// What help says of scripts of events.
+const EVENTS_HELP: &str = "\
+The script comes on standard input, as JSON of at most 1,048,576 bytes:
+
+  {\"partitions\":2,\"replicas\":3,\"app\":\"kv\",\"events\":[EVENT, ..]}
+
+and where wanted \"expect\":[text, ..], the lines of answers and the last one.
+
+  EVENT  [\"submit\",r,p,TXN], [\"close\",r,p], [\"propose\",r,p,e],
+         [\"deliver\",k], [\"merge\",r,p], [\"lock\",r,p], [\"begin\",r,p,e,n],
+         [\"finish\",r,p,e,n], [\"snapshot\",r,p,e], [\"askreads\",r,p,e,n,r2],
+         [\"askbatch\",r,p,e,g,r2,p2], [\"restart\",r,p]
+
+r and p are a replica and a partition, e an epoch, n a request's number in its
+epoch, g a group, k the number of a packet; all count from 0. `calvin serial
+--help` shows the form of a TXN.
+
+A line for each event says how it ended, `k ok` or `k refused number`; one for
+each node where it stands, `node r.p stands e rows m`; one for each request that
+was answered, `epoch.n client:number answer`; the last line is `finished` and
+the last epoch at whose end every node stands, or none.
+
+`calvin --help` lists the exit statuses.";
+
 /// What help says of statuses.
 const STATUS_HELP: &str = "\
 Statuses:
   0  all went well
   2  the command line or the script is refused, and nothing is printed
+  3  the answers aren't the ones that the script of `check` expects
   4  memory ran out, and nothing is printed
   5  reading or writing failed
-At 2, 4 and 5 standard error has one line that says why.
+At 2 to 5 standard error has one line that says why.
 
-`calvin serial --help` shows the form of a script.";
+`calvin serial --help` and `calvin check --help` show the forms of scripts.";
 
 /// What a command line asks for.
 enum Wish {
     /// The serial run, where requests that declare no sets have these.
     Serial(UndeclaredSets),
+    /// The run of a list of events.
+    Check,
     /// Help was asked for, and this is its text.
     Help(Error),
 }
@@ -85,6 +115,16 @@ fn serial_line<'a>(alloc: Global) -> Result<Command<'a>, AllocError>
         .arg(scout_flag(alloc))
 }
 
+/// The subcommand `check`.
+fn check_line<'a>(alloc: Global) -> Command<'a>
+    ensures app { app_of result ≡ check_app }
+    ensures local { (fields_of result).has_globals ≡ false }
+{
+    Command::new(alloc, "check")
+        .about("Runs a list of events in a world and prints what became of them")
+        .after_help(EVENTS_HELP)
+}
+
 /// The program's command line.
 fn line<'a>(alloc: Global) -> Result<Command<'a>, AllocError>
     ensures { IfOk result (λ c. app_of c ≡ calvin) }
@@ -94,7 +134,8 @@ fn line<'a>(alloc: Global) -> Result<Command<'a>, AllocError>
         .about("Calvin: a deterministic, partitioned, replicated transaction store")
         .after_help(STATUS_HELP)
         .subcommand_required(true)
-        .subcommand(serial)
+        .subcommand(serial)?
+        .subcommand(check_line(alloc))
 }
 
 /// Whether the flag `--scout` was found. Its value is read as text, of which clap's clauses say exactly what it is.
@@ -107,21 +148,28 @@ fn has_scout(serial: &ArgMatches<'_>) -> bool
     }
 }
 
-/// The undeclared sets that are asked for, where `serial` is.
-fn sets_asked(matches: &ArgMatches<'_>) -> Option<UndeclaredSets>
-    ensures named { IsSome result ↔ (subcommand_name_of matches.now ≡ Some (codes "serial")) }
-    ensures sets { IfSome result (λ sets. sets ≡ sets_of (subcommand_rows_of matches.now)) }
+/// What the matches of a line ask for.
+fn wish_of(matches: &ArgMatches<'_>) -> Option<Wish>
+    ensures serial { subcommand_name_of matches.now ≡ Some (codes "serial") → result ≡ Some (Serial (sets_of (subcommand_rows_of matches.now))) }
+    ensures check { subcommand_name_of matches.now ≡ Some (codes "check") → result ≡ Some Check }
+    ensures only { IfSome result (IsOf (subcommand_name_of matches.now)) }
 {
-    let serial = matches.subcommand_matches("serial")?;
-    if has_scout(serial) {
-        return Some(UndeclaredSets::Scouted);
+    if let Some(serial) = matches.subcommand_matches("serial") {
+        if has_scout(serial) {
+            return Some(Wish::Serial(UndeclaredSets::Scouted));
+        }
+        return Some(Wish::Serial(UndeclaredSets::First));
     }
-    Some(UndeclaredSets::First)
+    if matches.subcommand_matches("check").is_some() {
+        return Some(Wish::Check);
+    }
+    None
 }
 
 fn parse<'a, W: AsStr>(alloc: Global, words: &'a [W]) -> Result<Wish, Refusal>
-    ensures only { IsRun result → IsSerialLine (map W.text words.entry.now) }
+    ensures only { IsRun (map W.text words.entry.now) result }
     ensures serial { IsSerialLine (map W.text words.entry.now) → IsSerial (sets_asked (map W.text words.entry.now)) result }
+    ensures check { IsCheckLine (map W.text words.entry.now) → IsCheck result }
     ensures help { IsHelpLine (map W.text words.entry.now) → IsHelp result }
     ensures bad { IsBadLine (map W.text words.entry.now) → IsRefused result }
 {
@@ -129,10 +177,7 @@ fn parse<'a, W: AsStr>(alloc: Global, words: &'a [W]) -> Result<Wish, Refusal>
         return Err(Refusal::OutOfMemory);
     };
     match command.try_get_matches_from(words) {
-        Ok(matches) => match sets_asked(&matches) {
-            Some(sets) => Ok(Wish::Serial(sets)),
-            None => Err(Refusal::BadLine),
-        },
+        Ok(matches) => wish_of(&matches).ok_or(Refusal::BadLine),
         Err(e) => match e.kind() {
             ErrorKind::DisplayHelp => Ok(Wish::Help(e)),
             ErrorKind::OutOfMemory => Err(Refusal::OutOfMemory),
@@ -153,6 +198,7 @@ fn run_serial<S: Source, K: Sink, E: Sink>(
     ensures statuses { IsStatus result }
     ensures devices { LeavesDevices S.Source K.Sink E.Sink input.old input.new output.old output.new error.old error.new result }
     ensures serial { RunsEngine S.Source K.Sink E.Sink input.old input.new output.old output.new error.old error.new result (serial_text sets) }
+    ensures expected { result ≢ 3 }
 {
     match serial(alloc, sets, input, output) {
         Ok(()) => 0,
@@ -160,8 +206,27 @@ fn run_serial<S: Source, K: Sink, E: Sink>(
     }
 }
 
-/// Runs a command line, and answers its status: 0 where all went well, 2 where the line or the script is refused, 4 for
-/// want of memory, 5 where a device failed. The line on standard error may fail to be written; the status stays.
+/// Runs the engine `check`, tells a fault, and answers the status.
+#[tactic(auto, using(crate::proofs::Endings::check_status))]
+fn run_check<S: Source, K: Sink, E: Sink>(
+    alloc: Global,
+    input: &mut S,
+    output: &mut K,
+    error: &mut E,
+) -> u8
+    ensures statuses { IsStatus result }
+    ensures devices { LeavesDevices S.Source K.Sink E.Sink input.old input.new output.old output.new error.old error.new result }
+    ensures check { RunsEngine S.Source K.Sink E.Sink input.old input.new output.old output.new error.old error.new result check_text }
+    ensures expects { Expects S.Source K.Sink E.Sink input.old input.new output.old output.new error.old error.new result check_text IsExpected }
+{
+    match check(alloc, input, output) {
+        Ok(()) => 0,
+        Err(fault) => end_with(fault, error),
+    }
+}
+
+/// Runs a command line, and answers its status: 0 where all went well, 2 where the line or the script is refused, 3 where the
+/// answers aren't those that a script of `check` expects, 4 for want of memory, 5 where a device failed. The line on standard error may fail to be written; the status stays.
 #[tactic(auto, using(crate::proofs::Named::is_taken_line, crate::proofs::Words::is_plain_line, crate::proofs::Words::is_scout_line, crate::proofs::Helped::is_covered))]
 pub fn command<W: AsStr, S: Source, K: Sink, E: Sink>(
     alloc: Global,
@@ -171,31 +236,39 @@ pub fn command<W: AsStr, S: Source, K: Sink, E: Sink>(
     error: &mut E,
 ) -> u8
     ensures statuses { IsStatus result }
-    // A line that clap takes is for `serial`; `calvin serial` is such a line, and asks for the first sets, and
-    // `calvin serial --scout` is one that asks for scouted ones.
-    ensures taken { IsTaken (map W.text words.now) → IsSerialLine (map W.text words.now) }
+    // A line that clap takes is for `serial` or `check`; `calvin serial` is such a line, and asks for the first sets, and
+    // `calvin serial --scout` is one that asks for scouted ones; so is `calvin check`.
+    ensures taken { IsTaken (map W.text words.now) → IsSerialLine (map W.text words.now) ⊎ IsCheckLine (map W.text words.now) }
     ensures plain { IsPlainSerialLine (map W.text words.now)
         → IsSerialLine (map W.text words.now) × (sets_asked (map W.text words.now) ≡ UndeclaredSets.First) }
     ensures scout { IsScoutLine (map W.text words.now)
         → IsSerialLine (map W.text words.now) × (sets_asked (map W.text words.now) ≡ UndeclaredSets.Scouted) }
+    ensures plain_check { IsPlainCheckLine (map W.text words.now) → IsCheckLine (map W.text words.now) }
     // A line without the word `help` is such a line, a call for help or a bad line.
-    ensures covered { ¬ HasHelpWord (map W.text words.now) → ¬ IsSerialLine (map W.text words.now)
+    ensures covered { ¬ HasHelpWord (map W.text words.now) → ¬ IsSerialLine (map W.text words.now) → ¬ IsCheckLine (map W.text words.now)
         → ¬ IsHelpLine (map W.text words.now) → IsBadLine (map W.text words.now) }
-    // A line that isn't for `serial` reads nothing.
-    ensures idle { ¬ IsSerialLine (map W.text words.now) → input.new ≡ input.old }
+    // A line that isn't for a subcommand reads nothing.
+    ensures idle { ¬ IsSerialLine (map W.text words.now) → ¬ IsCheckLine (map W.text words.now) → input.new ≡ input.old }
     // A line that asks for help isn't refused, and a bad line is, unless memory runs out.
     ensures help { IsHelpLine (map W.text words.now) → result ≢ 2 }
     ensures bad { IsBadLine (map W.text words.now) → (result ≡ 2) ⊎ (result ≡ 4) }
-    ensures told_bad_line { ¬ IsSerialLine (map W.text words.now) → result ≡ 2
+    ensures told_bad_line { ¬ IsSerialLine (map W.text words.now) → ¬ IsCheckLine (map W.text words.now) → result ≡ 2
         → Tells (E.taken error.old) (E.taken error.new) (E.failures error.old) (E.failures error.new) (codes "calvin: bad line\n") }
     // Which device failed, what is left as it was, and what standard error is told.
     ensures devices { LeavesDevices S.Source K.Sink E.Sink input.old input.new output.old output.new error.old error.new result }
     // `serial` writes the text for the script with the sets that are asked for, or refuses it.
     ensures serial { IsSerialLine (map W.text words.now)
         → RunsEngine S.Source K.Sink E.Sink input.old input.new output.old output.new error.old error.new result (serial_text (sets_asked (map W.text words.now))) }
+    // `check` writes the text for the script, or refuses it; 3 is for it alone, and says that the answers aren't as expected.
+    ensures check { IsCheckLine (map W.text words.now)
+        → RunsEngine S.Source K.Sink E.Sink input.old input.new output.old output.new error.old error.new result check_text }
+    ensures expects { IsCheckLine (map W.text words.now)
+        → Expects S.Source K.Sink E.Sink input.old input.new output.old output.new error.old error.new result check_text IsExpected }
+    ensures unexpected { result ≡ 3 → IsCheckLine (map W.text words.now) }
 {
     match parse(alloc, words) {
         Ok(Wish::Serial(sets)) => run_serial(alloc, sets, input, output, error),
+        Ok(Wish::Check) => run_check(alloc, input, output, error),
         Ok(Wish::Help(help)) => print_help(alloc, &help, output, error),
         Err(Refusal::BadLine) => refuse_line(error),
         Err(Refusal::OutOfMemory) => end_with(Fault::OutOfMemory, error),
