@@ -177,7 +177,10 @@ fn parse<'a, W: AsStr>(alloc: Global, words: &'a [W]) -> Result<Wish, Refusal>
         return Err(Refusal::OutOfMemory);
     };
     match command.try_get_matches_from(words) {
-        Ok(matches) => wish_of(&matches).ok_or(Refusal::BadLine),
+        Ok(matches) => match wish_of(&matches) {
+            Some(wish) => Ok(wish),
+            None => Err(Refusal::BadLine),
+        },
         Err(e) => match e.kind() {
             ErrorKind::DisplayHelp => Ok(Wish::Help(e)),
             ErrorKind::OutOfMemory => Err(Refusal::OutOfMemory),

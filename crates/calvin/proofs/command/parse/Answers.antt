@@ -12,8 +12,10 @@ pub returns : goal.returns
 returns g c =
     let has = c.in-Err.ensures.kinds (ap is_simple_and_free c.in-Ok.ensures ∙ is_free_line) in
     record {
-      only = λ run. absurd run;
+      only = tt;
       serial = λ taken. ⊎_elim (λ memory. c.in_default-kind.not-OutOfMemory (c.kind.ensures ∙ memory)) (λ none. none)
+          (kinds_at _ _ _ c.in-Err.e c.in-Ok.ensures has taken.0);
+      check = λ taken. ⊎_elim (λ memory. c.in_default-kind.not-OutOfMemory (c.kind.ensures ∙ memory)) (λ none. none)
           (kinds_at _ _ _ c.in-Err.e c.in-Ok.ensures has taken.0);
       help = λ help. ⊎_elim (λ memory. c.in_default-kind.not-OutOfMemory (c.kind.ensures ∙ memory))
           (⊎_elim (λ asked. c.in_default-kind.not-DisplayHelp (c.kind.ensures ∙ asked)) (λ none. none))
