@@ -8,4 +8,5 @@ mod text;
 mod undeclared;
 
 pub use engine::serial;
+pub use listed::requests_of;
 pub use undeclared::UndeclaredSets;

@@ -12,8 +12,8 @@ pub(crate) struct ListedBatches<'a, R> {
     pub script: &'a Script<R>,
 }
 
-/// The requests that are listed for a group: none, where no batch is.
-fn requests_of<Op: Operation>(epoch: &Epoch<Kept<Op>>, group: u8) -> &[Kept<Op>]
+/// The requests that an epoch lists for a group: none, where no batch is.
+pub fn requests_of<Op: Operation>(epoch: &Epoch<Kept<Op>>, group: u8) -> &[Kept<Op>]
     ensures requests { result.now ≡ requests_of group (all_listed epoch.now) }
     ensures at_most { length result.now ≤ MOST_REQUESTS }
 {

@@ -1,0 +1,4 @@
+pub mod Leading
+pub mod Opened
+pub mod Submitted
+pub mod Rooms

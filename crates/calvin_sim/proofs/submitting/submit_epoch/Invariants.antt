@@ -1,0 +1,8 @@
+use Rattle.std.specs.List.{flat_map, range_with_len}
+use Rattle.calvin_script.specs.Scripts.{all_listed, requests_of}
+use Rattle.calvin_sim.specs.Simulations.{submitting, AllDone}
+use Rattle.calvin_sim.proofs.submitting.submit_epoch.Given as goal
+
+-- the batches of the groups so far are
+abbrev pub invariant-loop-group : goal.invariant-loop-group
+invariant-loop-group g l = AllDone g.A.App.meaning l.fn.world (flat_map (λ h. submitting h (requests_of h (all_listed l.epoch))) (range_with_len 0 l.group)) l.world

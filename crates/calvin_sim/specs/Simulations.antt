@@ -1,0 +1,78 @@
+-- What a simulation of a script is: the script's batches are submitted and closed, all with effect, and whatever events follow
+-- submit and close nothing. What a world makes of events is that of a whole store (Thomson et al. 2012, section 3; "Paxos Made
+-- Simple", section 2); how a script is run in one is of this project.
+--     sequencer_of g      the node at which the requests of a group are submitted
+--     submitting g requests      a batch is submitted there, request by request, and closed
+--     submitting_epoch partitions epoch      each group's batch of an epoch is, by ascending group
+--     submissions script      all that are listed are, epoch by epoch
+--     listed_for g epochs      how many requests of a group these epochs list
+--     fits script      a sequencer has room for all requests of its group, and each epoch has a number
+--     AllTaken script      a sequencer takes each request that is listed, whatever it has taken before
+--     is_quiet event      it submits and closes nothing
+--     AllDone m w events v      these events lead from w to v, each with effect
+--     LeadsQuietly m w v      some events that submit and close nothing lead from w to v, with whatever outcomes
+--     IsSimulation m c script v      the submissions of the script and then quiet events lead from the opening to v
+use Rattle.std.specs.Prelude.{◌≡◌, ℕ, Bool, true, false, ◌&&◌, nat_le, List, [], ◌∷◌, ◌++◌, map, length, sum_by}
+use Rattle.std.specs.List.{flat_map, list_all, range_with_len}
+use Rattle.calvin_types.specs.declared.limits.TheConstants.{MOST_UNDECIDED, MOST_EPOCHS}
+use Rattle.calvin_types.specs.declared.place.NodeId.{NodeId}
+use Rattle.calvin_app.specs.Meaning.{Meaning}
+use Rattle.calvin_order.specs.Configs.{Config}
+use Rattle.calvin_script.specs.declared.contents.Request.{Request}
+use Rattle.calvin_script.specs.Scripts.{Contents, Listed, requests_of, are_taken}
+use Rattle.calvin_node.specs.declared.act.Act.TheVariants.{Submit, SubmitCold, Close}
+use Rattle.calvin_world.specs.declared.event.Event.{Event}
+use Rattle.calvin_world.specs.declared.event.Event.TheVariants.{At}
+use Rattle.calvin_world.specs.declared.event.Outcome.{Outcome}
+use Rattle.calvin_world.specs.declared.event.Outcome.TheVariants.{Done}
+use Rattle.calvin_world.specs.Worlds.{WorldState, opening}
+use Rattle.calvin_world.specs.SettledWorlds.{SettledLeads}
+
+abbrev pub sequencer_of : ℕ → NodeId
+sequencer_of g = record { replica = 0; partition = g }
+
+module _ {Args : Type 0} where
+  -- ---- what is submitted
+
+  abbrev pub submitting : ℕ → List (Request Args) → List (Event Args)
+  submitting g requests = map (λ r. At (sequencer_of g) (Submit r.txn)) requests ++ At (sequencer_of g) Close ∷ []
+
+  abbrev pub submitting_epoch : ℕ → List (Listed Args) → List (Event Args)
+  submitting_epoch partitions epoch = flat_map (λ g. submitting g (requests_of g epoch)) (range_with_len 0 partitions)
+
+  abbrev pub submissions : Contents Args → List (Event Args)
+  submissions script = flat_map (submitting_epoch script.partitions) script.epochs
+
+  -- ---- which scripts
+
+  abbrev pub listed_for : ℕ → List (List (Listed Args)) → ℕ
+  listed_for g epochs = sum_by (λ epoch. length (requests_of g epoch)) epochs
+
+  abbrev pub fits : Contents Args → Bool
+  fits script = list_all (λ g. nat_le (listed_for g script.epochs) MOST_UNDECIDED) (range_with_len 0 script.partitions) && nat_le (length script.epochs) MOST_EPOCHS
+
+  abbrev pub AllTaken : Contents Args → Type 0
+  AllTaken script = list_all (λ epoch. list_all (λ (b : Listed Args). are_taken b.requests) epoch) script.epochs ≡ true
+
+  -- ---- what follows
+
+  abbrev pub is_quiet : Event Args → Bool
+  is_quiet (At id (Submit t)) = false
+  is_quiet (At id (SubmitCold t)) = false
+  is_quiet (At id Close) = false
+  is_quiet event = true
+
+module _ {Args Row Reply : Type 0} (m : Meaning Args Row Reply) where
+  abbrev pub AllDone : WorldState Args Row Reply → List (Event Args) → WorldState Args Row Reply → Type 0
+  AllDone w events v = SettledLeads m w events (map (λ event. Done) events) v
+
+  pub record LeadsQuietly (w v : WorldState Args Row Reply) : Type 0 where
+    pub events : List (Event Args)
+    pub outcomes : List Outcome
+    pub quiet : list_all is_quiet events ≡ true
+    pub leads : SettledLeads m w events outcomes v
+
+  pub record IsSimulation (c : Config) (script : Contents Args) (v : WorldState Args Row Reply) : Type 0 where
+    pub submitted : WorldState Args Row Reply
+    pub submits : AllDone (opening c) (submissions script) submitted
+    pub follows : LeadsQuietly submitted v

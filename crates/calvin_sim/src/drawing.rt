@@ -1,0 +1,146 @@
+//! Events that are drawn.
+ghost use Rattle.std.specs.Prelude.{◌≡◌, true, IsOkUnless};
+ghost use Rattle.calvin_types.specs.declared.place.NodeId.{NodeId};
+ghost use Rattle.calvin_world.specs.declared.event.Event.TheVariants.{At};
+ghost use Rattle.calvin_sim.specs.Simulations.{is_quiet, LeadsQuietly};
+
+use crate::schedule::{Restarts, Schedule};
+use crate::stepping::{happen, sent};
+use calvin_app::App;
+use calvin_lock::QueueLocks;
+use calvin_node::Act;
+use calvin_store::PlainRows;
+use calvin_types::{Config, Fault, NodeId, Place, Slot};
+use calvin_world::{Event, World};
+use rand_core::utils::NextWord;
+use rand_pcg::Lcg64Xsh32;
+
+/// The stream of the generator.
+const STREAM: u64 = 54;
+
+/// Half of the packets that are delivered are drawn from the last so many.
+const RECENT: u32 = 64;
+
+/// From what events are drawn: a generator, the nodes that there are, how many epochs were closed, and whether nodes
+/// restart.
+#[derive(Drop)]
+struct Drawing {
+    generator: Lcg64Xsh32,
+    config: Config,
+    epochs: usize,
+    restarts: Restarts,
+}
+
+impl Drawing {
+    /// A number below `below`; 0, where that is 0.
+    fn draw(&mut self, below: u32) -> u32 {
+        self.generator.next_word().checked_rem(below).unwrap_or(0)
+    }
+
+    /// A number below `below`; 0, where that is 0.
+    fn draw_byte(&mut self, below: u8) -> u8 {
+        self.draw(below as u32).min(255) as u8
+    }
+
+    /// A number below `below` and below 2^32; 0, where `below` is 0.
+    fn draw_index(&mut self, below: usize) -> usize {
+        self.draw(below.min(u32::MAX as usize) as u32) as usize
+    }
+
+    fn draw_node(&mut self) -> NodeId {
+        NodeId {
+            replica: self.draw_byte(self.config.replicas),
+            partition: self.draw_byte(self.config.partitions),
+        }
+    }
+
+    fn draw_epoch(&mut self) -> u64 {
+        self.draw_index(self.epochs) as u64
+    }
+
+    fn draw_slot(&mut self) -> Slot {
+        Slot {
+            epoch: self.draw_epoch(),
+            group: self.draw_byte(self.config.partitions),
+        }
+    }
+
+    /// The number of one of so many packets; in half of the cases of one of the last.
+    fn draw_packet(&mut self, packets: usize) -> usize {
+        if self.draw(2) == 0 {
+            return self.draw_index(packets);
+        }
+        let back = self.draw(RECENT) as usize;
+        packets.saturating_sub(back).saturating_sub(1)
+    }
+
+    /// Whether a node restarts now.
+    fn draw_restart(&mut self, id: NodeId) -> bool {
+        match self.restarts {
+            Restarts::Never => false,
+            Restarts::AboveReplicaZero => id.replica > 0 && self.draw(16) == 0,
+        }
+    }
+
+    /// An act of a node whose least ready place is this one.
+    fn draw_act<Args>(&mut self, id: NodeId, place: Place) -> Act<Args>
+        ensures { (at : NodeId) → is_quiet (At at result) ≡ true }
+    {
+        if self.draw_restart(id) {
+            return Act::Restart;
+        }
+        match self.draw(10) {
+            0 | 1 => Act::Propose(self.draw_epoch()),
+            2 => Act::Merge,
+            3 | 4 => Act::Lock,
+            5 | 6 => Act::Begin(place),
+            7 => Act::Finish(place),
+            8 => Act::AskForReads(place, self.draw_byte(self.config.replicas)),
+            _ => Act::AskForBatch(self.draw_slot(), self.draw_node()),
+        }
+    }
+
+    /// An event of a world: more often than not the delivery of a packet.
+    fn draw_event<A: App + Drop>(
+        &mut self,
+        world: &World<A, QueueLocks, PlainRows<A::Row>>,
+    ) -> Event<A::Args>
+        ensures { is_quiet result ≡ true }
+    {
+        if self.draw(3) > 0 {
+            return Event::Deliver(self.draw_packet(sent(world)));
+        }
+        let id = self.draw_node();
+        let first = Place { epoch: 0, n: 0 };
+        let place = match world.node(id) {
+            Some(node) => node.first_ready(None).unwrap_or(first),
+            None => first,
+        };
+        Event::At(id, self.draw_act(id, place))
+    }
+}
+
+/// Lets as many drawn events happen as the schedule says, of a script with so many epochs. Refused with `OutOfMemory`
+/// alone.
+#[tactic(auto, using(crate::proofs::Leading::quiet_here, crate::proofs::Leading::quiet_then))]
+pub(crate) fn draw_events<A: App + Drop>(
+    world: &mut World<A, QueueLocks, PlainRows<A::Row>>,
+    config: &Config,
+    epochs: usize,
+    schedule: &Schedule,
+) -> Result<(), Fault>
+    ensures quiet { LeadsQuietly A.meaning world.old world.new }
+    ensures only { IsOkUnless result Fault.OutOfMemory }
+{
+    let mut drawing = Drawing {
+        generator: Lcg64Xsh32::new(schedule.start, STREAM),
+        config: *config,
+        epochs,
+        restarts: schedule.restarts,
+    };
+    for _ in 0..schedule.steps {
+        let event = drawing.draw_event(world);
+        let _outcome = happen(world, &event)?;
+    }
+    Ok(())
+}

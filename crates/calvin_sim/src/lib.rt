@@ -1,0 +1,16 @@
+//! The engine `sim`: a script in, and the text of its run in a whole world out, under a drawn schedule. The world's events
+//! are the script's submissions, then drawn ones, then those that bring every node to the last epoch.
+#![tactic(auto)]
+
+mod asking;
+mod drawing;
+mod fitting;
+mod schedule;
+mod simulation;
+mod stepping;
+mod submitting;
+mod working;
+
+pub use fitting::fits;
+pub use schedule::{MOST_STEPS, Restarts, Schedule};
+pub use simulation::simulate;
