@@ -10,9 +10,11 @@ use Rattle.calvin_app.specs.Meaning.{Meaning}
 use Rattle.calvin_world.specs.declared.event.Event.{Event}
 use Rattle.calvin_world.specs.declared.event.Outcome.{Outcome}
 use Rattle.calvin_world.specs.declared.event.Outcome.TheVariants.{Done}
-use Rattle.calvin_world.specs.Worlds.{WorldState}
+use Rattle.calvin_world.specs.Worlds.{WorldState, opening}
 use Rattle.calvin_world.specs.SettledWorlds.{SettledStep, SettledLeads}
-use Rattle.calvin_sim.specs.Simulations.{is_quiet, AllDone, LeadsQuietly}
+use Rattle.calvin_order.specs.Configs.{Config}
+use Rattle.calvin_script.specs.Scripts.{Contents}
+use Rattle.calvin_sim.specs.Simulations.{is_quiet, submissions, AllDone, LeadsQuietly, IsSimulation}
 
 both : (a b : Bool) → a ≡ true → b ≡ true → (a && b) ≡ true
 both true true p q = refl
@@ -53,3 +55,7 @@ module _ {Args Row Reply : Type 0} (m : Meaning Args Row Reply) where
   pub done_split : (u w : WorldState Args Row Reply) (events later : List (Event Args)) → AllDone m u (events ++ later) w → (v : WorldState Args Row Reply) × AllDone m u events v × AllDone m v later w
   done_split u w [] later all = (u, refl, all)
   done_split u w (e ∷ es) later all = let rest = done_split all.0 w es later all.2 in (rest.0, (all.0, all.1, rest.1), rest.2)
+
+  -- a simulation's events
+  pub simulation_leads : (c : Config) (script : Contents Args) (v : WorldState Args Row Reply) (s : IsSimulation m c script v) → SettledLeads m (opening c) (submissions script ++ s.follows.events) (map (λ e. Done) (submissions script) ++ s.follows.outcomes) v
+  simulation_leads c script v s = leads_then (opening c) s.submitted v (submissions script) (map (λ e. Done) (submissions script)) s.follows.events s.follows.outcomes s.submits s.follows.leads

@@ -2,3 +2,4 @@ pub mod Leading
 pub mod Opened
 pub mod Submitted
 pub mod Rooms
+pub mod Taken

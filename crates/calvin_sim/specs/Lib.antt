@@ -1,2 +1,3 @@
 pub mod Simulations
 pub mod Sequencers
+pub mod Telling

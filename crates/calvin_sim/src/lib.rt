@@ -9,8 +9,10 @@ mod schedule;
 mod simulation;
 mod stepping;
 mod submitting;
+mod telling;
 mod working;
 
-pub use fitting::fits;
+pub use fitting::{fits, read_is_taken};
 pub use schedule::{MOST_STEPS, Restarts, Schedule};
 pub use simulation::simulate;
+pub use telling::simulate_and_tell;
