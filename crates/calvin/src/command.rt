@@ -60,8 +60,8 @@ epoch, g a group, k the number of a packet; all count from 0. `calvin serial
 
 A line for each event says how it ended, `k ok` or `k refused number`; one for
 each node where it stands, `node r.p stands e rows m`; one for each request that
-was answered, `epoch.n client:number answer`; the last line is `finished` and
-the last epoch at whose end every node stands, or none.
+was answered, `epoch.n client:number answer`. Each node has a last epoch at whose
+end it stands, or none; the last line is `finished` and the least of them.
 
 `calvin --help` lists the exit statuses.";
 
@@ -222,10 +222,10 @@ fn run_check<S: Source, K: Sink, E: Sink>(
     ensures check { RunsEngine S.Source K.Sink E.Sink input.old input.new output.old output.new error.old error.new result check_text }
     ensures expects { Expects S.Source K.Sink E.Sink input.old input.new output.old output.new error.old error.new result check_text IsExpected }
 {
-    match check(alloc, input, output) {
-        Ok(()) => 0,
-        Err(fault) => end_with(fault, error),
-    }
+    let Err(fault) = check(alloc, input, output) else {
+        return 0;
+    };
+    end_with(fault, error)
 }
 
 /// Runs a command line, and answers its status: 0 where all went well, 2 where the line or the script is refused, 3 where the

@@ -1,7 +1,10 @@
 //! The program `calvin`: a deterministic, partitioned, replicated transaction store. `calvin serial` runs a script of
-//! epochs one request at a time and prints what each request was answered.
+//! epochs one request at a time and prints what each request was answered; `calvin check` runs a list of events in a world
+//! and prints what became of them.
 #![tactic(auto)]
 
+#[cfg(test)]
+mod check_cases;
 mod command;
 mod ending;
 #[cfg(test)]

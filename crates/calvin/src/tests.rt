@@ -12,7 +12,7 @@ const PUT_THEN_GET: &str =
 const PUT_THEN_GET_TEXT: &str = "0.0 7:1 done\n0.1 7:2 value 5\nfinished 0\n";
 
 /// Runs a line over memory, and compares the status, the output and what standard error is told.
-fn runs(
+pub(crate) fn runs(
     rt: &impl Abort,
     alloc: Global,
     words: &[&str],
