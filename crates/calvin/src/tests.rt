@@ -138,7 +138,7 @@ fn bad_lines(rt: HostRuntime) {
     let lines: [&[&str]; 14] = [
         &["calvin"],
         &["calvin", "parallel"],
-        &["calvin", "check"],
+        &["calvin", "check", "script.json"],
         &["calvin", "sim"],
         &["calvin", "run", "--workers", "4"],
         &["calvin", "--scout"],
