@@ -1,16 +1,20 @@
 -- What a command leaves its devices with. The notion is of this project.
 --     Tells old new failures later line      a line was written where no write failed, and else a proper beginning of it
 --     LeavesDevices from to telling .. status      what holds of every line: which device failed, what stays as it was, and what is told
---     RunsEngine from to telling .. status text      what holds of a subcommand whose answer to its input is the text, or a refusal
+--     Runs from to telling .. status read IsText      what holds of a subcommand that refuses its input or writes such a text for it
+--     RunsEngine from to telling .. status text      what holds of one that writes the text that its input determines
+--     RunsSim from to telling .. status replicas      what holds of one that writes the text of a world of so many replicas to which its input leads
 --     Expects from to telling .. status text IsExpected      what holds of one whose input says which answers it expects
-use Rattle.std.specs.Prelude.{◌≡◌, ◌≢◌, Bool, true, false, ℕ, ◌+◌, ◌<◌, List, length, take, Option, Result, Err, IfSome, IsErr, ◌⊎◌}
+use Rattle.std.specs.Prelude.{◌≡◌, ◌≢◌, Bool, true, false, ℕ, ◌+◌, ◌<◌, List, length, take, Option, Result, Ok, Err, IfSome, IsErr, ◌⊎◌}
 use Rattle.std.specs.Io.KnownBytes.{Appends}
 use Rattle.calvin_types.specs.declared.fault.Fault.{Fault}
 use Rattle.calvin_types.specs.declared.fault.Fault.TheVariants.{OutOfMemory, ReadFailed, WriteFailed, NotExpected}
 use Rattle.calvin_edge.specs.declared.source.Source as source
 use Rattle.calvin_edge.specs.declared.sink.Sink as sink
-use Rattle.calvin_edge.specs.Answering.{HasText, HasBeginning}
+use Rattle.calvin_edge.specs.Answering.{HasText}
 use Rattle.calvin_edge.specs.Complaints.{complaint}
+use Rattle.calvin_sim.specs.declared.engine.Simulated.{Simulated}
+use Rattle.calvin_sim.specs.Engine.{sim_script, IsSimText}
 use Rattle.calvin.specs.Statuses.{status_of}
 
 pub record Tells (old new : Option (List ℕ)) (failures later : ℕ) (line : List ℕ) : Type 0 where
@@ -47,14 +51,21 @@ module _ {S K E : Type 0} (from : source.Ghosts S) (to : sink.Ghosts K) (telling
     pub told_reading : ReadingFailed → IsTold (complaint ReadFailed)
     pub told_writing : WritingFailed → IsTold (complaint WriteFailed)
 
-  pub record RunsEngine (text : List ℕ → Result (List ℕ) Fault) : Type 0 where
-    -- where it ended well, the text is out
-    pub written : status ≡ 0 → IfSome (from.left input) (λ bytes. HasText (text bytes) (λ answer. Appends (to.taken output) (to.taken output_after) answer))
+  pub record Runs {X : Type 0} (read : List ℕ → Result X Fault) (IsText : List ℕ → List ℕ → Type 0) : Type 0 where
+    -- where it ended well, such a text is out
+    pub written : status ≡ 0 → IfSome (from.left input) (λ bytes. (text : List ℕ) × IsText bytes text × Appends (to.taken output) (to.taken output_after) text)
     -- it ends with 2 only where the input is refused, and tells this refusal
-    pub refused : status ≡ 2 → IfSome (from.left input) (λ bytes. IsErr (text bytes))
-    pub told_refusal : status ≡ 2 → (fault : Fault) × (status_of fault ≡ 2) × (IfSome (from.left input) (λ bytes. text bytes ≡ Err fault)) × IsTold (complaint fault)
-    -- where writing the answers failed, a proper beginning of the text is out
-    pub beginning : WritingFailed → IfSome (from.left input) (λ bytes. HasBeginning (text bytes) (to.taken output) (to.taken output_after))
+    pub refused : status ≡ 2 → IfSome (from.left input) (λ bytes. IsErr (read bytes))
+    pub told_refusal : status ≡ 2 → (fault : Fault) × (status_of fault ≡ 2) × (IfSome (from.left input) (λ bytes. read bytes ≡ Err fault)) × IsTold (complaint fault)
+    -- where writing the text failed, a proper beginning of one is out
+    pub beginning : WritingFailed → IfSome (from.left input) (λ bytes. (text : List ℕ) × IsText bytes text
+        × (n : ℕ) × (n < length text) × Appends (to.taken output) (to.taken output_after) (take n text))
+
+  abbrev pub RunsEngine : (List ℕ → Result (List ℕ) Fault) → Type 0
+  RunsEngine text = Runs text (λ bytes answer. text bytes ≡ Ok answer)
+
+  abbrev pub RunsSim : ℕ → Type 0
+  RunsSim replicas = Runs sim_script (λ bytes text. (world : Simulated) × IsSimText replicas bytes world text)
 
   -- what holds of a subcommand whose input says which answers it expects
   pub record Expects (text : List ℕ → Result (List ℕ) Fault) (IsExpected : Bool → List ℕ → Type 0) : Type 0 where

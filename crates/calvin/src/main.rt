@@ -1,12 +1,22 @@
 //! The program `calvin`: a deterministic, partitioned, replicated transaction store. `calvin serial` runs a script of
-//! epochs one request at a time and prints what each request was answered; `calvin check` runs a list of events in a world
-//! and prints what became of them.
+//! epochs one request at a time and prints what each request was answered; `calvin sim` runs one in a world of replicas and
+//! prints the same; `calvin check` runs a list of events in a world and prints what became of them.
 #![tactic(auto)]
 
+#[cfg(test)]
+mod agreement_cases;
 #[cfg(test)]
 mod check_cases;
 mod command;
 mod ending;
+#[cfg(test)]
+mod event_lists;
+#[cfg(test)]
+mod limit_cases;
+#[cfg(test)]
+mod sim_cases;
+#[cfg(test)]
+mod snapshot_cases;
 #[cfg(test)]
 mod tests;
 

@@ -135,11 +135,10 @@ fn scouted_settle(rt: HostRuntime) {
 
 #[test]
 fn bad_lines(rt: HostRuntime) {
-    let lines: [&[&str]; 14] = [
+    let lines: [&[&str]; 13] = [
         &["calvin"],
         &["calvin", "parallel"],
         &["calvin", "check", "script.json"],
-        &["calvin", "sim"],
         &["calvin", "run", "--workers", "4"],
         &["calvin", "--scout"],
         &["calvin", "--scout", "serial"],
@@ -197,6 +196,8 @@ fn help_is_shown(rt: HostRuntime) {
     let parts = ["partitions", "finished", "--scout", "calvin --help"];
     helps(&rt, alloc, &["calvin", "serial", "--help"], &parts);
     helps(&rt, alloc, &["calvin", "help", "serial"], &parts);
+    let parts = ["--start <N>", "[default: 1000]", "--restarts", "4,096"];
+    helps(&rt, alloc, &["calvin", "sim", "--help"], &parts);
 }
 
 #[test]

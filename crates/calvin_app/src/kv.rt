@@ -74,6 +74,21 @@ impl KvRequest {
             KvRequest::Follow(id) => add_followed(*id, None, &mut sets.reads),
         }
     }
+
+    /// Adds the keys that the request reads where no row is known to a set that has none yet, as `add_first_needs` does.
+    #[inline(always)]
+    pub fn add_needed_reads(&self, reads: &mut KeySet)
+        requires { reads.old ≡ [] }
+        ensures { reads.new ≡ (kv.needs self.now finmap.empty).reads }
+    {
+        match self {
+            KvRequest::Put(_, _) => {}
+            KvRequest::Get(keys) => add_asked(keys, reads),
+            KvRequest::Add(id, _) => reads.insert(key_of(*id)).unwrap(),
+            KvRequest::Move(from, to, _) => *reads = pair_of(*from, *to),
+            KvRequest::Follow(id) => add_followed(*id, None, reads),
+        }
+    }
 }
 
 /// What is told of numbers by key.

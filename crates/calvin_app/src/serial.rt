@@ -1,7 +1,7 @@
 //! Requests run one at a time, on one undivided map: what every other run of them has to agree with (Thomson et al.
 //! 2012, section 3: the order of requests is fixed first, and execution is equivalent to running them serially in it).
 ghost use Rattle.calvin_app.specs.declared.answer.Answer.TheVariants.{Changed, Reply};
-ghost use Rattle.std.specs.Prelude.{◌≡◌, ◌≢◌, IfOk, OnOk, OnErr, IsOkUnless, [], IsOk};
+ghost use Rattle.std.specs.Prelude.{◌≡◌, ◌≢◌, IfOk, OnOk, OnErr, IsOkUnless, [], false, IsOk};
 ghost use Rattle.std.specs.FinMap as map;
 ghost use Rattle.calvin_app.specs.Rows.{view, overwritten};
 ghost use Rattle.calvin_app.specs.Serial.{nameless, answer_one, after_one, writes_on};
@@ -11,7 +11,7 @@ use crate::app::App;
 use crate::table::Table;
 use crate::view::View;
 use crate::writes::Writes;
-use calvin_types::{Fault, Sets, Txn};
+use calvin_types::{Fault, KeySet, Sets, Txn};
 use std::alloc::Global;
 use std::marker::Model;
 
@@ -43,6 +43,14 @@ impl<A: App> Serial<A> {
             app,
             rows: Table::new(alloc),
         }
+    }
+
+    /// Makes room for so many rows more, which then needn't be moved one step after another. Refused for want of memory.
+    pub fn reserve(&mut self, rows: usize) -> Result<(), Fault>
+        ensures kept { self.new ≡ self.old }
+        ensures only { IsOkUnless result Fault.OutOfMemory }
+    {
+        self.rows.reserve(rows)
     }
 
     /// All rows.
@@ -116,7 +124,7 @@ impl<A: App> Serial<A> {
         ensures only { IsOkUnless result Fault.OutOfMemory }
         ensures succeeds { writes_on A.meaning (nameless args.now sets.now) (view self.old sets.now.reads) ≡ [] → IsOk result }
     {
-        self.see(sets, seen);
+        self.see(&sets.reads, seen);
         if !self.app.needs_only(args, seen, sets) {
             tell_changed(answer);
             return Ok(());
@@ -124,36 +132,41 @@ impl<A: App> Serial<A> {
         self.run_seen(args, seen, answer, writes)
     }
 
-    /// Runs one request as `apply_parts` does, of which the sets are those that it needs where no row is known: unless they
-    /// may depend on rows they aren't compared with those that it needs.
+    /// Whether the sets that arguments need may depend on rows.
+    pub fn is_dependent(&self, args: &A::Args) -> bool
+        ensures { result ≡ A.is_dependent args.now }
+    {
+        self.app.dependent(args)
+    }
+
+    /// Runs one request as `apply_parts` does, of which the sets are those that it needs where no row is known, and don't
+    /// depend on rows: they aren't compared with those that it needs, so the keys that it reads are enough.
     pub fn apply_first(
         &mut self,
         args: &A::Args,
-        sets: &Sets,
+        reads: &KeySet,
         seen: &mut View<A::Row>,
         answer: &mut Answer<A::Reply>,
         writes: &mut Writes<A::Row>,
     ) -> Result<(), Fault>
-        requires first { A.meaning.needs args.now map.empty ≡ sets.now }
-        ensures answer { OnOk result (answer.new ≡ answer_one A.meaning (nameless args.now sets.now) self.old) }
-        ensures ok { OnOk result (self.new ≡ after_one A.meaning (nameless args.now sets.now) self.old) }
+        requires first { (A.meaning.needs args.now map.empty).reads ≡ reads.now }
+        requires fixed { A.is_dependent args.now ≡ false }
+        ensures answer { OnOk result (answer.new ≡ answer_one A.meaning (nameless args.now (A.meaning.needs args.now map.empty)) self.old) }
+        ensures ok { OnOk result (self.new ≡ after_one A.meaning (nameless args.now (A.meaning.needs args.now map.empty)) self.old) }
         ensures err { OnErr result (self.new ≡ self.old) }
         ensures only { IsOkUnless result Fault.OutOfMemory }
-        ensures succeeds { writes_on A.meaning (nameless args.now sets.now) (view self.old sets.now.reads) ≡ [] → IsOk result }
+        ensures succeeds { writes_on A.meaning (nameless args.now (A.meaning.needs args.now map.empty)) (view self.old (A.meaning.needs args.now map.empty).reads) ≡ [] → IsOk result }
     {
-        if self.app.dependent(args) {
-            return self.apply_parts(args, sets, seen, answer, writes);
-        }
-        self.see(sets, seen);
+        self.see(reads, seen);
         self.run_seen(args, seen, answer, writes)
     }
 
     /// Puts the rows of the declared reads in place of those that were seen.
-    fn see(&self, sets: &Sets, seen: &mut View<A::Row>)
-        ensures { seen.new ≡ view self.now sets.now.reads }
+    fn see(&self, reads: &KeySet, seen: &mut View<A::Row>)
+        ensures { seen.new ≡ view self.now reads.now }
     {
         seen.clear();
-        self.rows.look_up(&sets.reads, seen);
+        self.rows.look_up(reads, seen);
     }
 
     /// Runs a request on what it sees, which are rows under the keys that it needs.

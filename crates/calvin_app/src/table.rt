@@ -39,6 +39,15 @@ impl<Row: Copy> Table<Row> {
         }
     }
 
+    /// Makes room for so many rows more. Refused for want of memory.
+    pub fn reserve(&mut self, rows: usize) -> Result<(), Fault>
+        ensures kept { self.new ≡ self.old }
+        ensures only { IsOkUnless result Fault.OutOfMemory }
+    {
+        self.rows.reserve(rows)?;
+        Ok(())
+    }
+
     /// The row of a key, if it has one.
     pub fn get(&self, key: &Key) -> Option<Row>
         ensures { result ≡ map.get self.now key.now }

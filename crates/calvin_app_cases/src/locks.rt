@@ -173,6 +173,12 @@ impl Draws {
         ((self.state >> 33) as u32).checked_rem(bound).unwrap_or(0)
     }
 
+    /// One of the keys below `bound`.
+    fn key(&mut self, bound: u32) -> KeySet {
+        let id = self.below(bound) as u64;
+        KeySet::of(Key { table: 0, id })
+    }
+
     /// Some of the keys 0 to 7, and often none.
     fn keys(&mut self) -> Result<KeySet, Fault> {
         let mut keys = KeySet::new();
@@ -237,6 +243,45 @@ fn keepers_agree(rt: HostRuntime) -> Result<(), Fail> {
     for start in 1..21 {
         let answers = drawn::<ListLocks>(rt.alloc(), start, 2_000)?;
         let others = drawn::<QueueLocks>(rt.alloc(), start, 2_000)?;
+        assert_eq!(rt; answers.as_slice(), others.as_slice());
+    }
+    Ok(())
+}
+
+/// The answer to a drawn call at one of the last 400 places requested, or at the first ready one.
+fn near<L: Locks>(locks: &mut L, draws: &mut Draws, last: u32) -> Result<Answer, Fault> {
+    let at = place(last.saturating_sub(draws.below(400)));
+    match draws.below(8) {
+        0 => Ok(Answer::First(locks.first_ready(Some(at)))),
+        1 => Ok(Answer::Ready(locks.is_ready(at))),
+        2 => {
+            let first = locks.first_ready(None).unwrap_or(at);
+            Ok(Answer::Number(number(locks.release(first))?))
+        }
+        _ => Ok(Answer::Number(number(locks.release(at))?)),
+    }
+}
+
+/// The answers where hundreds of places are unreleased at once and most are released from the middle: after each request,
+/// of one key that is read and one that is written, come two other calls.
+fn crowded<L: Locks + Drop>(alloc: Global, start: u64, places: u32) -> Result<Vec<Answer>, Fault> {
+    let mut locks = L::empty(alloc);
+    let mut draws = Draws { state: start };
+    let mut answers = Vec::new(alloc);
+    for n in 0..places {
+        let (reads, writes) = (draws.key(4_000), draws.key(4_000));
+        answers.push(Answer::Number(number(locks.request(place(n), &reads, &writes))?))?;
+        answers.push(near(&mut locks, &mut draws, n)?)?;
+        answers.push(near(&mut locks, &mut draws, n)?)?;
+    }
+    Ok(answers)
+}
+
+#[test]
+fn keepers_agree_on_many(rt: HostRuntime) -> Result<(), Fail> {
+    for start in 1..4 {
+        let answers = crowded::<ListLocks>(rt.alloc(), start, 3_000)?;
+        let others = crowded::<QueueLocks>(rt.alloc(), start, 3_000)?;
         assert_eq!(rt; answers.as_slice(), others.as_slice());
     }
     Ok(())

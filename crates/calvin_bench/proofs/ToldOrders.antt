@@ -198,14 +198,14 @@ module _ (Args Row : Type 0) where
 module _ {Args Row : Type 0} where
   module _ (here : Site) (es : Order Args) (n at end : ℕ) (low : EndsAt es n at) (high : EndsAt es (suc n) end) (after : at ≤ end) where
     abbrev next : Scheduled Args Row
-    next = record { here = here; scheduling = opened (end_of 0) empty; room = 0; merged = suc n; due = local_places here (take at es) ++ left (opened {Args = Args} {Row = Row} (end_of 0) empty) (local_places here (slice_range es at end)) }
+    next = record { here = here; scheduling = opened (end_of 0) empty; room = 0; merged = suc n; due = local_places here (take at es) ++ left (opened {Args = Args} {Row = Row} (end_of 0) empty) (local_places here (slice_range es at end)); due_room = 0 }
 
     next_is : next ≡ told_upto here es end (suc n)
     next_is =
         let due : local_places here (take at es) ++ left (opened {Args = Args} {Row = Row} (end_of 0) empty) (local_places here (slice_range es at end)) ≡ local_places here (take end es) =
         ap (λ ds. local_places here (take at es) ++ ds) (all_left Args Row (local_places here (slice_range es at end)))
         ∙ sym (local_joined here (take at es) (slice_range es at end)) ∙ ap (local_places here) (joined es at end after) in
-        λ i. record { here = here; scheduling = opened (end_of 0) empty; room = 0; merged = suc n; due = due i }
+        λ i. record { here = here; scheduling = opened (end_of 0) empty; room = 0; merged = suc n; due = due i; due_room = 0 }
 
     merges : merge n (slice_range es at end) (told_upto {Row = Row} here es at n) ≡ Does next tt
     merges = λ i. cond (test i) (Does next tt) (Refuses fault.AdmittedOutOfOrder)
@@ -255,4 +255,4 @@ module _ {Args Row : Type 0} where
   told_all es rises last there old untold at ends new told =
       let count : suc last.0.epoch ≡ epochs_of es = sym (epochs_are es rises last there) in
       let due : local_places old.here (take at es) ≡ local_places old.here es = ap (local_places old.here) (ends_last es rises last there at ends) in
-      told ∙ (λ i. record { here = old.here; scheduling = (sym untold i).scheduling; room = (sym untold i).room; merged = count i; due = due i })
+      told ∙ (λ i. record { here = old.here; scheduling = (sym untold i).scheduling; room = (sym untold i).room; merged = count i; due = due i; due_room = (sym untold i).due_room })

@@ -18,4 +18,4 @@ pub record EndsAt {Args : Type 0} (order : Order Args) (n at : ℕ) : Type 0 whe
   pub rest : (i : ℕ) (e : Place × Txn Args) → at ≤ i → slice_get order i ≡ Some e → n ≤ e.0.epoch
 
 abbrev pub told_upto : {Args Row : Type 0} → Site → Order Args → ℕ → ℕ → Scheduled Args Row
-told_upto here order at n = record { here = here; scheduling = opened (end_of 0) empty; room = 0; merged = n; due = local_places here (take at order) }
+told_upto here order at n = record { here = here; scheduling = opened (end_of 0) empty; room = 0; merged = n; due = local_places here (take at order); due_room = 0 }

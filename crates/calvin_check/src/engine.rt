@@ -1,8 +1,9 @@
 //! The engine `check`: a script of events in, what they make of a world out.
-ghost use Rattle.std.specs.Prelude.{◌≡◌, ◌≢◌, ◌+◌, ◌≤◌, ℕ, true, false, IfOk, IfErr, OnOk, IfSome, Ok, Err, IsErrOf, IsOkUnless};
-ghost use Rattle.std.specs.Io.KnownBytes.{Appends, IsAtEnd};
+ghost use Rattle.std.specs.Prelude.{◌≡◌, ◌≢◌, ◌+◌, true, false, IfOk, IfErr, OnOk, IfSome, Ok, Err, IsErrOf, IsOkUnless};
+ghost use Rattle.std.specs.Result.{result_err};
+ghost use Rattle.std.specs.Io.KnownBytes.{Appends};
 ghost use Rattle.calvin_edge.specs.Answering.{HasText, HasBeginning, Refuses};
-ghost use Rattle.calvin_edge.specs.Devices.{ConsumesSome};
+ghost use Rattle.calvin_edge.specs.Devices.{LeavesAsTold};
 ghost use Rattle.calvin_script.specs.Documents.{data_of};
 ghost use Rattle.calvin_script.specs.Reading.{and_then, json, Reads};
 ghost use Rattle.calvin_events.specs.EventScripts.{world_contents};
@@ -11,7 +12,7 @@ ghost use Rattle.calvin_check.specs.Checks.{report, is_as_expected, report_for, 
 use crate::expecting::are_lines;
 use crate::running::run_events;
 use calvin_app::{App, Kv};
-use calvin_edge::{MOST_BYTES, Sink, Source, read_all, write_all};
+use calvin_edge::{Sink, Source, read_all, write_all};
 use calvin_events::{EventScript, event_script_of};
 use calvin_lock::QueueLocks;
 use calvin_report::{Epochs, finished, push_nodes, push_replies, replies_of};
@@ -104,21 +105,8 @@ pub fn check<S: Source, K: Sink>(alloc: Global, source: &mut S, sink: &mut K) ->
     ensures untouched { IfErr result (λ fault. fault ≢ Fault.WriteFailed → fault ≢ Fault.NotExpected → sink.new ≡ sink.old) }
     ensures beginning { IsErrOf result Fault.WriteFailed → IfSome (S.left source.old) (λ bytes.
         HasBeginning (check_text bytes) (K.taken sink.old) (K.taken sink.new)) }
-    // All is read, or the first byte too many and none past it.
-    ensures all_read { OnOk result (IsAtEnd (S.left source.new)) }
-    ensures too_long { IsErrOf result Fault.ScriptTooLong
-        → ConsumesSome (S.left source.old) (S.left source.new) (MOST_BYTES + 1) }
-    ensures no_more { (n : ℕ) × (n ≤ MOST_BYTES + 1)
-        × ConsumesSome (S.left source.old) (S.left source.new) n }
-    // The device failed.
-    ensures read_failed { IsErrOf result Fault.ReadFailed
-        → S.failures source.new ≡ S.failures source.old + 1 }
-    ensures read_well { result ≢ Err Fault.ReadFailed
-        → S.failures source.new ≡ S.failures source.old }
-    ensures write_failed { IsErrOf result Fault.WriteFailed
-        → K.failures sink.new ≡ K.failures sink.old + 1 }
-    ensures wrote_well { result ≢ Err Fault.WriteFailed
-        → K.failures sink.new ≡ K.failures sink.old }
+    // How far it read, and which device failed.
+    ensures devices { LeavesAsTold S.Source K.Sink source.old source.new sink.old sink.new (result_err result) }
 {
     let bytes = read_all(alloc, source)?;
     let report = report_in(alloc, bytes)?;

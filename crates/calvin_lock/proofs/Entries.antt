@@ -1,5 +1,5 @@
 -- Sums over the values of a map's entries.
-use Rattle.std.proofs.Common.{◌≡◌, ℕ, ◌+◌, ◌≤◌, Bool, true, false, cond, if◌then◌else◌, List, [], ◌∷◌, Option, Some, None, is_some, get_or, position, refl, sym, ap, subst, ◌∙◌, arith, OnSome, OnOk, IfOk, Result, Ok, Err}
+use Rattle.std.proofs.Common.{◌≡◌, ℕ, ◌+◌, ◌≤◌, Bool, true, false, cond, if◌then◌else◌, List, [], ◌∷◌, Option, Some, None, is_some, get_or, position, refl, sym, ap, subst, ◌∙◌, arith, OnOk, IfOk, Result, Ok, Err}
 use Rattle.std.proofs.lemmas.Bool.{false≢true}
 use Rattle.std.proofs.lemmas.Option.{none-some, same_Some, slice_get-map, slice_get-get_or}
 use Rattle.std.proofs.lemmas.List.Sums.{sum_by-cons, sum_by_push, sum_by-swap_remove, sum_by-le}
@@ -11,10 +11,6 @@ use Rattle.std.specs.Option.{option_map, IfSome}
 use Rattle.std.specs.Map.{lookup, keys_of, values_of}
 use Rattle.indexmap.specs.IndexMap.{insert_entry, swap_remove_entry}
 use Rattle.indexmap.proofs.MapLemmas.{Found-position, some_index, swap_remove_entry-found}
-
-pub on_some : {X P : Type 0} (o : Option X) → OnSome o P → is_some o ≡ true → P
-on_some None of some = absurd (false≢true some)
-on_some (Some x) of some = of
 
 pub on_ok : {X E P : Type 0} (r : Result X E) (x : X) → r ≡ Ok x → OnOk r P → P
 on_ok (Ok y) x is of = of

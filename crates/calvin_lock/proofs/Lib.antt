@@ -2,6 +2,7 @@ pub mod AskedKeys
 pub mod Conflicts
 pub mod Entries
 pub mod LocalLocks
+pub mod MarkWords
 pub mod PlaceTests
 pub mod QueueLists
 pub mod QueueMaps

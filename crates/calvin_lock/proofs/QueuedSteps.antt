@@ -23,14 +23,14 @@ use Rattle.calvin_lock.specs.declared.unreleased.Unreleased.{Unreleased}
 use Rattle.calvin_lock.specs.Ready.{IsReady, IsPast, IsFirstReady}
 use Rattle.calvin_lock.specs.ListOrder.{IsFree}
 use Rattle.calvin_lock.specs.Queues.{equal_places, asked, ask_of, asks_of, waits_in, waits_of, IsQueueAt, AreQueues, Leaves}
-use Rattle.calvin_lock.specs.Unreleased.{Among, pending_at, IsReadyIn, IsUnreleased, WaitsFor, IsFirstAmong}
+use Rattle.calvin_lock.specs.Unreleased.{Among, pending_at, IsReadyIn, IsUnreleased, IsUpTo, WaitsFor, IsFirstReadyIn}
 use Rattle.calvin_lock.specs.Queued.{requests_of, IsQueued}
 use Rattle.calvin_lock.proofs.Entries.{sum_none}
 use Rattle.calvin_lock.proofs.PlaceTests.{places_exact, places_self}
 use Rattle.calvin_lock.proofs.QueueLists.{append_none, unasked_free}
 use Rattle.calvin_lock.proofs.QueueMaps.{same_asks}
 use Rattle.calvin_lock.proofs.ReadyByQueues.{AsksFor, ask_cases, asks_append, unfound_waits, leaves_queue, stays_queue, free_waits, waits_free}
-use Rattle.calvin_lock.proofs.Requests.{found_index, index_found, find_without, free_ready, ready_free, stands, unfound, up_to_at, past_before, in_order_push, in_order_without, pushed, removed}
+use Rattle.calvin_lock.proofs.Requests.{found_index, index_found, find_without, free_ready, ready_free, stands, unfound, past_before, in_order_push, in_order_without, pushed, removed}
 
 abbrev pub sets_of : Option Pending → Option Sets
 sets_of o = option_map (λ (p : Pending). p.sets) o
@@ -90,9 +90,9 @@ module _ (queues : List (Key × Queue)) (u : Unreleased) (last : Option Place) (
           let none = free_waits k.requests k.order.rising at.0 q ready.0 at.1 queues k.asked (ready_free k.requests k.order.rising at.0 (q, ready.0) at.1 ready) in
           (pending.0, pending.1.0, k.waits q pending.0 pending.1.0 ∙ none)
 
-  pub first_is : (after answer : Option Place) → IsFirstAmong u.ready.items after answer → IsFirstReady (from_entries (requests_of u.places.entries)) after answer
-  first_is after None none = λ q past ready. none q past ((k.unreleased.ready q).1 ((ready_iff q).1 ready))
-  first_is after (Some p) (past, there, least) = (past, (ready_iff p).0 ((k.unreleased.ready p).0 there), λ q beyond ready before. least q beyond ((k.unreleased.ready q).1 ((ready_iff q).1 ready)) before)
+  pub first_is : (after answer : Option Place) → IsFirstReadyIn u.places.entries after answer → IsFirstReady (from_entries (requests_of u.places.entries)) after answer
+  first_is after None none = λ q past ready. none q past ((ready_iff q).1 ready)
+  first_is after (Some p) (past, ready, least) = (past, (ready_iff p).0 ready, λ q beyond there before. least q beyond ((ready_iff q).1 there) before)
 
   -- ---- a request at a place past the last one
 
@@ -100,11 +100,8 @@ module _ (queues : List (Key × Queue)) (u : Unreleased) (last : Option Place) (
     pub new_place : pending_at u.places.entries place ≡ None
     new_place = no_sets (pending_at u.places.entries place) (sym (k.same place) ∙ unfound last place k.requests k.order.up_to past)
 
-    pub last_place : (q : Place) → Among u.ready.items q → IsBefore q place
-    last_place q there =
-        let ready = (k.unreleased.ready q).0 there in
-        let at = at_request q ready.0 ready.1 in
-        past_before last q place (up_to_at last k.requests at.0 (q, ready.0.sets) k.order.up_to at.1) past
+    pub last_place : (q : Place) → Among u.order.items q → IsBefore q place
+    last_place q there = past_before last q place (k.up_to q there) past
 
     unasked : (key : Key) → waits_in place (asks_of key k.requests) ≡ 0
     unasked key = unfound_waits key place k.requests (unfound last place k.requests k.order.up_to past)
@@ -129,7 +126,7 @@ module _ (queues : List (Key × Queue)) (u : Unreleased) (last : Option Place) (
       pub requested_map : from_entries {R = place_cmp} (requests_of v.places.entries) ≡ map.insert (from_entries (requests_of u.places.entries)) place p.sets
       requested_map = map_is (k.requests ++ (place, p.sets) ∷ []) v.places.entries more_is ∙ pushed k.requests last place p.sets k.order past ∙ ap (λ m. map.insert m place p.sets) (sym kept_map)
 
-      module _ (now : List (Key × Queue)) (kept : IsUnreleased v)
+      module _ (now : List (Key × Queue)) (kept : IsUnreleased v) (up_to : IsUpTo v (Some place))
           (joined : AreQueues (λ key. asks_of key k.requests ++ ask_of key (place, p.sets)) now)
           (counted : (q : Place) → waits_of q now ≡ waits_of q queues + (if equal_places q place then p.waits else 0)) where
         more_waits : WaitsFor (λ q. waits_of q now) v.places.entries
@@ -164,25 +161,26 @@ module _ (queues : List (Key × Queue)) (u : Unreleased) (last : Option Place) (
           asked = same_asks _ _ now (λ key. ap (λ l. asks_of key k.requests ++ l) (sym (append_none (ask_of key (place, p.sets)))) ∙ sym (asks_append key k.requests ((place, p.sets) ∷ []))) joined;
           waits = more_waits;
           unreleased = kept;
+          up_to = up_to;
         }
 
   -- ---- the release of a ready place
 
-  module _ (place : Place) (h : Sets) (ready : pending_at u.places.entries place ≡ Some (record { sets = h; waits = 0 })) where
-    at_index : slice_get k.requests (at_request place (record { sets = h; waits = 0 }) ready).0 ≡ Some (place, h)
-    at_index = (at_request place (record { sets = h; waits = 0 }) ready).1
+  module _ (place : Place) (h : Sets) (n : ℕ) (ready : pending_at u.places.entries place ≡ Some (record { sets = h; waits = 0; near = n })) where
+    at_index : slice_get k.requests (at_request place (record { sets = h; waits = 0; near = n }) ready).0 ≡ Some (place, h)
+    at_index = (at_request place (record { sets = h; waits = 0; near = n }) ready).1
 
-    free : IsFree k.requests (at_request place (record { sets = h; waits = 0 }) ready).0
-    free = free_at place (record { sets = h; waits = 0 }) ready refl (at_request place (record { sets = h; waits = 0 }) ready).0 at_index
+    free : IsFree k.requests (at_request place (record { sets = h; waits = 0; near = n }) ready).0
+    free = free_at place (record { sets = h; waits = 0; near = n }) ready refl (at_request place (record { sets = h; waits = 0; near = n }) ready).0 at_index
 
     abbrev pub before_release : Key → List Ask
     before_release key = asks_of key k.requests
 
     abbrev pub after_release : Key → List Ask
-    after_release key = asks_of key (remove k.requests (at_request place (record { sets = h; waits = 0 }) ready).0)
+    after_release key = asks_of key (remove k.requests (at_request place (record { sets = h; waits = 0; near = n }) ready).0)
 
     leaves_asked : (key : Key) (a : Ask) → AsksFor key (place, h) a → Leaves (before_release key) (after_release key)
-    leaves_asked key a asks = leaves_queue k.requests k.order.rising (at_request place (record { sets = h; waits = 0 }) ready).0 place h at_index free key a asks
+    leaves_asked key a asks = leaves_queue k.requests k.order.rising (at_request place (record { sets = h; waits = 0; near = n }) ready).0 place h at_index free key a asks
 
     module _ (none : List Key) (empty : none ≡ []) where
       written : (key : Key) (b : Bool) → has h.writes key ≡ b → asked h.writes none key ≡ (b && true)
@@ -219,7 +217,7 @@ module _ (queues : List (Key × Queue)) (u : Unreleased) (last : Option Place) (
         | inl unasked ↦
             ap (λ b. cond (b && not (has h.writes key)) (after_release key) (mid_release key)) unasked.reads
             ∙ ap (λ b. cond b (after_release key) (before_release key)) (written key false unasked.writes)
-            ∙ stays_queue k.requests k.order.rising (at_request place (record { sets = h; waits = 0 }) ready).0 place h at_index key unasked
+            ∙ stays_queue k.requests k.order.rising (at_request place (record { sets = h; waits = 0; near = n }) ready).0 place h at_index key unasked
         | inr (a, mine) ↦ elim mine.kinds [
           | inl alone ↦ ap (λ l. cond (asked h.reads h.writes key) (after_release key) l) (ap (λ b. cond b (after_release key) (before_release key)) (written key true alone.0)) ∙ either (asked h.reads h.writes key)
           | inr shared ↦ (λ i. cond (shared.1.0 i && not (shared.0 i)) (after_release key) (mid_release key))
@@ -239,9 +237,9 @@ module _ (queues : List (Key × Queue)) (u : Unreleased) (last : Option Place) (
             go false is = k.waits q p (sym (taken q ∙ ap (λ c. cond c None (pending_at u.places.entries q)) is) ∙ found)
 
         module _ (v : Unreleased) (sets : (q : Place) → sets_of (pending_at v.places.entries q) ≡ sets_of (pending_at gone q)) where
-          less_is : (q : Place) → find place_cmp q (remove k.requests (at_request place (record { sets = h; waits = 0 }) ready).0) ≡ sets_of (pending_at v.places.entries q)
+          less_is : (q : Place) → find place_cmp q (remove k.requests (at_request place (record { sets = h; waits = 0; near = n }) ready).0) ≡ sets_of (pending_at v.places.entries q)
           less_is q =
-              find_without k.requests (at_request place (record { sets = h; waits = 0 }) ready).0 (place, h) q k.order.rising at_index
+              find_without k.requests (at_request place (record { sets = h; waits = 0; near = n }) ready).0 (place, h) q k.order.rising at_index
               ∙ (λ i. cond (turned place q i) None (k.same q i))
               ∙ through (equal_places place q) ∙ sym (ap sets_of (taken q)) ∙ sym (sets q)
             where
@@ -249,17 +247,18 @@ module _ (queues : List (Key × Queue)) (u : Unreleased) (last : Option Place) (
               through true = refl
               through false = refl
 
-          pub released : (now : List (Key × Queue)) → IsUnreleased v → AreQueues (λ key. cond (asked h.reads h.writes key) (after_release key) (mid_release key)) now → WaitsFor (λ q. waits_of q now) v.places.entries → IsQueued now v last
-          released now kept left waits = record {
-            requests = remove k.requests (at_request place (record { sets = h; waits = 0 }) ready).0;
-            order = in_order_without k.requests last (at_request place (record { sets = h; waits = 0 }) ready).0 k.order;
+          pub released : v.order.items ≡ u.order.items → (now : List (Key × Queue)) → IsUnreleased v → AreQueues (λ key. cond (asked h.reads h.writes key) (after_release key) (mid_release key)) now → WaitsFor (λ q. waits_of q now) v.places.entries → IsQueued now v last
+          released same now kept left waits = record {
+            requests = remove k.requests (at_request place (record { sets = h; waits = 0; near = n }) ready).0;
+            order = in_order_without k.requests last (at_request place (record { sets = h; waits = 0; near = n }) ready).0 k.order;
             same = less_is;
             asked = same_asks _ _ now left_all left;
             waits = waits;
             unreleased = kept;
+            up_to = λ q there. k.up_to q (subst (λ l. Among l q) same there);
           }
 
           pub released_map : from_entries {R = place_cmp} (requests_of v.places.entries) ≡ map.remove (from_entries (requests_of u.places.entries)) place
-          released_map = map_is (remove k.requests (at_request place (record { sets = h; waits = 0 }) ready).0) v.places.entries less_is
-              ∙ removed k.requests (at_request place (record { sets = h; waits = 0 }) ready).0 (place, h) k.order.rising at_index
+          released_map = map_is (remove k.requests (at_request place (record { sets = h; waits = 0; near = n }) ready).0) v.places.entries less_is
+              ∙ removed k.requests (at_request place (record { sets = h; waits = 0; near = n }) ready).0 (place, h) k.order.rising at_index
               ∙ ap (λ m. map.remove m place) (sym kept_map)

@@ -243,7 +243,7 @@ module _ (es : List (Place × Sets)) (rising : T (is_sorted place_cmp es)) where
         λ k f less. all k less f
 
 -- no requested place of a list in order is past the last one
-pub up_to_at : (last : Option Place) (es : List (Place × Sets)) (i : ℕ) (e : Place × Sets) → UpTo last es → slice_get es i ≡ Some e → ¬ IsPast last e.0
+up_to_at : (last : Option Place) (es : List (Place × Sets)) (i : ℕ) (e : Place × Sets) → UpTo last es → slice_get es i ≡ Some e → ¬ IsPast last e.0
 up_to_at last [] i e upto at = absurd (none-some e at)
 up_to_at last (x ∷ es) zero e upto at = subst (λ (y : Place × Sets). ¬ IsPast last y.0) (same_Some x e at) upto.0
 up_to_at last (x ∷ es) (suc i) e upto at = up_to_at last es i e upto.1 at

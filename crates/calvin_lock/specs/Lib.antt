@@ -2,6 +2,7 @@ pub mod ListOrder
 pub mod Local
 pub mod Locking
 pub mod LocksCode
+pub mod Marks
 pub mod Queued
 pub mod Queues
 pub mod Ready

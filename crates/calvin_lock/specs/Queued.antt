@@ -10,7 +10,7 @@ use Rattle.calvin_types.specs.declared.place.Place.{Place}
 use Rattle.calvin_types.specs.Places.{place_cmp}
 use Rattle.calvin_lock.specs.ListOrder.{IsInOrder}
 use Rattle.calvin_lock.specs.Queues.{asks_of, waits_of, AreQueues}
-use Rattle.calvin_lock.specs.Unreleased.{pending_at, WaitsFor, IsUnreleased}
+use Rattle.calvin_lock.specs.Unreleased.{pending_at, WaitsFor, IsUnreleased, IsUpTo}
 use Rattle.calvin_lock.specs.declared.queue.Queue.{Queue}
 use Rattle.calvin_lock.specs.declared.unreleased.Pending.{Pending}
 use Rattle.calvin_lock.specs.declared.unreleased.Unreleased.{Unreleased}
@@ -25,3 +25,4 @@ pub record IsQueued (queues : List (Key × Queue)) (u : Unreleased) (last : Opti
   pub asked : AreQueues (λ k. asks_of k requests) queues
   pub waits : WaitsFor (λ q. waits_of q queues) u.places.entries
   pub unreleased : IsUnreleased u
+  pub up_to : IsUpTo u last

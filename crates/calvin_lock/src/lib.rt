@@ -5,6 +5,8 @@
 mod conflict;
 mod list_locks;
 mod locks;
+mod marks;
+mod order;
 mod passing;
 mod queue;
 mod queue_locks;

@@ -5,21 +5,22 @@ ghost use Rattle.calvin_types.specs.declared.place.Place.{Place};
 ghost use Rattle.calvin_lock.specs.declared.queue.Kind.{Kind};
 ghost use Rattle.calvin_lock.specs.declared.queue.Ask.{Ask};
 ghost use Rattle.calvin_lock.specs.Queues.{asked, waits_of, AreQueues, HasRoomAt};
-ghost use Rattle.calvin_lock.specs.Unreleased.{IsUnreleased, HasPlace};
+ghost use Rattle.calvin_lock.specs.Unreleased.{Among, IsUnreleased, HasPlace};
 
 use crate::list_locks::is_past;
 use crate::locks::Locks;
 use crate::queue::Kind;
 use crate::queues::Queues;
-use crate::unreleased::{Pending, Unreleased};
+use crate::unreleased::Unreleased;
 use calvin_types::{Fault, KeySet, Place, Sets};
 use std::alloc::Global;
 use std::marker::Model;
 
 /// Locks as a queue for each key that an unreleased place asks for, and for each unreleased place the number of its keys
 /// that it waits for. A request and a release take expected time in proportion to the place's keys and to the keys that
-/// others come to hold by it; where a place becomes ready, or is no longer, the ready ones on one side of it move up, and
-/// it is found among them in logarithmic time. `is_ready` takes constant expected time, and `first_ready` logarithmic time.
+/// others come to hold by it, and logarithmic time for each place that becomes ready or is released. `is_ready` takes
+/// constant expected time, and `first_ready` logarithmic time. A request may come to a tidying, in time linear in the
+/// unreleased places; so many requests come before the next that it adds a constant to each of them.
 /// The hash has a fixed seed: keys that were chosen to collide make it slow and never wrong.
 #[derive(Drop)]
 pub struct QueueLocks {
@@ -53,7 +54,7 @@ fn reserve(
     requires { IsUnreleased unreleased.old }
     ensures kept { IsUnreleased unreleased.new }
     ensures places { unreleased.new.places.entries ≡ unreleased.old.places.entries }
-    ensures ready { unreleased.new.ready.items ≡ unreleased.old.ready.items }
+    ensures order { (q : Place) → Among unreleased.new.order.items q → Among unreleased.old.order.items q }
     ensures queues { (asks : Key → List Ask) → AreQueues asks queues.old.queues.entries → AreQueues asks queues.new.queues.entries }
     ensures waits { (q : Place) → waits_of q queues.new.queues.entries ≡ waits_of q queues.old.queues.entries }
     ensures place { OnOk result (HasPlace unreleased.new) }
@@ -98,7 +99,7 @@ impl Locks for QueueLocks {
             writes: *writes,
         };
         let waits = exclusive + shared;
-        self.unreleased.add(place, Pending { sets, waits });
+        self.unreleased.add(place, sets, waits);
         self.last = Some(place);
         Ok(())
     }

@@ -10,9 +10,9 @@ use Rattle.calvin_order.specs.Configs.{Config}
 use Rattle.calvin_sched.specs.Keeping.{awaits_at}
 use Rattle.calvin_sched.specs.Progress.{left}
 use Rattle.calvin_sched.specs.Scheduling.{Turn, awaits}
-use Rattle.calvin_node.specs.declared.packet.Packet.{Packet}
-use Rattle.calvin_node.specs.declared.packet.Content.TheVariants.{AskReads}
-use Rattle.calvin_node.specs.Packets.{to_each, others}
+use Rattle.calvin_packets.specs.declared.packet.Packet.{Packet}
+use Rattle.calvin_packets.specs.declared.packet.Content.TheVariants.{AskReads}
+use Rattle.calvin_packets.specs.Packets.{to_each, others}
 use Rattle.calvin_node.specs.NodeStates.{NodeState, site_of}
 use Rattle.calvin_node.specs.Acting.{awaited_from, ask_each}
 use Rattle.calvin_node.specs.Running.{NodeDid}

@@ -18,10 +18,10 @@ use Rattle.calvin_sched.specs.declared.phase.Phase.TheVariants.{Waiting, Begun, 
 use Rattle.calvin_sched.specs.Keeping.{takes_effect}
 use Rattle.calvin_sched.specs.Scheduling.{Turn, Scheduling, turn_at, with_turn, reads_here, is_read_here}
 use Rattle.calvin_sched.specs.Steps as sched
-use Rattle.calvin_node.specs.declared.packet.Packet.{Packet}
-use Rattle.calvin_node.specs.declared.packet.Address.TheVariants.{AtClient}
-use Rattle.calvin_node.specs.declared.packet.Content.TheVariants.{Reads, Replies}
-use Rattle.calvin_node.specs.Packets.{to_each}
+use Rattle.calvin_packets.specs.declared.packet.Packet.{Packet}
+use Rattle.calvin_packets.specs.declared.packet.Address.TheVariants.{AtClient}
+use Rattle.calvin_packets.specs.declared.packet.Content.TheVariants.{Reads, Replies}
+use Rattle.calvin_packets.specs.Packets.{to_each}
 use Rattle.calvin_node.specs.NodeStates.{NodeState, site_of}
 use Rattle.calvin_node.specs.Acting as acting
 use Rattle.calvin_node.specs.Running.{NodeDid, NodeFinished}

@@ -124,7 +124,7 @@ module _ {Args Row : Type 0} (Reply : Type 0) (c : Config) (id : NodeId) (member
 
   -- what an epoch that is merged makes of the scheduler
   abbrev told : Order Args → Scheduled Args Row
-  told order = record s { merged = suc s.merged; due = s.due ++ left s.scheduling (local_places s.here order) }
+  told order = record s { merged = suc s.merged; due = s.due ++ left s.scheduling (local_places s.here order); due_room = 0 }
 
   pub takes : (epoch : ℕ) (order : Order Args) → order ≡ next_order → epoch ≡ m.next → s.merged ≡ m.next → merge epoch order s ≡ Does (told order) tt
   takes epoch order is at so_far = ap (λ b. cond b (Does (told order) tt) (Refuses AdmittedOutOfOrder)) (ap (λ b. b && list_all (λ e. e.0.epoch == epoch) order) (eq-eqb epoch s.merged (at ∙ sym so_far)) ∙ subst (λ o. list_all (λ e. e.0.epoch == epoch) o ≡ true) (sym is) (subst (λ n. list_all (λ e. e.0.epoch == n) next_order ≡ true) (sym at) (all_numbered m.next 0 _)))

@@ -1,29 +1,28 @@
 -- What a new ballot makes of a node.
-use Rattle.std.proofs.Common.{◌≡◌, ℕ, Bool, true, false, cond, List, [], ◌++◌, length, length-append, take, ◌≤◌, arith, Option, Some, None, Result, Ok, Err, refl, sym, ap, subst, ◌∙◌}
+use Rattle.std.proofs.Common.{◌≡◌, ℕ, Bool, true, false, cond, List, [], Option, Some, None, Result, Ok, Err, refl, sym, subst}
 use Rattle.std.proofs.lemmas.Bool.{false≢true}
-use Rattle.std.proofs.lemmas.List.{append-nil}
-use Rattle.std.proofs.Math.Seq.{take-append_seam}
 use Rattle.std.specs.FinMap.{contains_key}
 use Rattle.calvin_types.specs.declared.fault.Fault.{Fault}
-use Rattle.calvin_types.specs.declared.fault.Fault.TheVariants.{OutOfMemory, RoundsSpent, NotClosed, Decided}
+use Rattle.calvin_types.specs.declared.fault.Fault.TheVariants.{RoundsSpent, NotClosed, Decided}
 use Rattle.calvin_types.specs.declared.place.Slot.{Slot}
 use Rattle.calvin_types.specs.Deeds.{Refuses}
 use Rattle.calvin_synod.specs.declared.mail.Mail.{Mail}
 use Rattle.calvin_synod.specs.declared.message.Message.TheVariants.{Prepare}
 use Rattle.calvin_synod.specs.Cases as synod
-use Rattle.calvin_synod.specs.Deeds.{MemberState, letters_of, Sends, Did}
+use Rattle.calvin_synod.specs.Deeds.{MemberState, Sends}
 use Rattle.calvin_synod.specs.Roles.{started, next_ballot}
 use Rattle.calvin_order.specs.Configs.{Config}
 use Rattle.calvin_order.specs.Merged.{Batch}
 use Rattle.calvin_order.specs.Sequencing.{closed_in}
 use Rattle.calvin_sched.specs.Progress.{left}
-use Rattle.calvin_node.specs.declared.packet.Packet.{Packet}
-use Rattle.calvin_node.specs.Packets.{synod_packets}
+use Rattle.calvin_packets.specs.declared.packet.Packet.{Packet}
+use Rattle.calvin_packets.specs.Letters.{MemberSent, given_by}
 use Rattle.calvin_node.specs.NodeStates.{NodeState, own_slot}
 use Rattle.calvin_node.specs.Handling.{by_synod}
 use Rattle.calvin_node.specs.Acting as acting
 use Rattle.calvin_node.specs.Running.{Running, NodeDid}
-use Rattle.calvin_node.proofs.Settling.{running}
+use Rattle.calvin_node.proofs.Answered.{by_member}
+use Rattle.calvin_node.proofs.Settling.{running, ended}
 
 module _ {Args Row : Type 0} (Reply : Type 0) (c : Config) (x : NodeState Args Row) (is : left x.scheduler x.due ≡ x.due) (e : ℕ) (sent : List (Packet Args Row Reply)) where
   abbrev ballot : Batch Args → synod.Deed (Batch Args)
@@ -43,12 +42,13 @@ module _ {Args Row : Type 0} (Reply : Type 0) (c : Config) (x : NodeState Args R
       → NodeDid true r (acting.propose c e x) (running c x) new sent all
   by_round r new all round did = subst (λ b. NodeDid true r (cond b (acting.propose_closed c e x (closed_in x.sequencer.closed e)) (Refuses RoundsSpent)) (running c x) new sent all) (sym round) did
 
-  by_batch : (r : Result (Unit {0}) Fault) (new : Running Args Row) (all : List (Packet Args Row Reply)) → synod.has_round x.synod ≡ true → (batch : Batch Args) → closed_in x.sequencer.closed e ≡ Some batch → contains_key x.held (own_slot x e) ≡ false
-      → NodeDid true r (by_synod c x (begun batch)) (running c x) new sent all → NodeDid true r (acting.propose c e x) (running c x) new sent all
-  by_batch r new all round batch closed free did = by_round r new all round
-      (subst (λ o. NodeDid true r (acting.propose_closed c e x o) (running c x) new sent all) (sym closed)
-      (subst (λ b. NodeDid true r (cond b (Refuses Decided) (by_synod c x (ballot batch))) (running c x) new sent all) (sym free)
-      (subst (λ b. NodeDid true r (by_synod c x (cond b (begun batch) (synod.Refuses RoundsSpent))) (running c x) new sent all) (sym round) did)))
+  -- a new ballot gives no batch
+  none_begun : (batch : Batch Args) → given_by (ballot batch) ≡ None
+  none_begun batch = go (synod.has_round x.synod)
+    where
+      go : (b : Bool) → given_by {B = Batch Args} (cond b (begun batch) (synod.Refuses RoundsSpent)) ≡ None
+      go true = refl
+      go false = refl
 
   -- no round is left
   pub spent : (f : Fault) → ((batch : Batch Args) → Sends false (Err f) (ballot batch)) → NodeDid true (Err f) (acting.propose c e x) (running c x) (running c x) sent sent
@@ -68,34 +68,10 @@ module _ {Args Row : Type 0} (Reply : Type 0) (c : Config) (x : NodeState Args R
       held_already held = by_round (Err Decided) (running c x) sent (has_round mail sends) (subst (λ o. NodeDid true (Err Decided) (acting.propose_closed c e x o) (running c x) (running c x) sent sent) (sym closed)
           (subst (λ b. NodeDid true (Err Decided) (cond b (Refuses Decided) (by_synod c x (ballot batch))) (running c x) (running c x) sent sent) (sym held) (refl, refl, refl)))
 
-      pub wanting : contains_key x.held (own_slot x e) ≡ false → (f : Fault) → f ≡ OutOfMemory → NodeDid true (Err f) (acting.propose c e x) (running c x) (running c x) sent sent
-      wanting free f is = by_batch (Err f) (running c x) sent (has_round mail sends) batch closed free (refl, is, refl, refl)
-
-      -- it isn't begun, for want of memory
-      pub not_begun : (f : Fault) (m after : MemberState (Batch Args)) → Did true (Err f) (ballot batch) m after → (f ≡ OutOfMemory) × (after ≡ m)
-      not_begun f m after did = let done = subst (λ b. Did true (Err f) (cond b (begun batch) (synod.Refuses RoundsSpent)) m after) (has_round mail sends) did in (done.1, done.2)
-
-      pub proposed : contains_key x.held (own_slot x e) ≡ false → (given : Option (Slot × Batch Args)) (m after : MemberState (Batch Args)) → Did true (Ok given) (ballot batch) m after → (all : List (Packet Args Row Reply)) → all ≡ sent ++ synod_packets c.replicas x.id (letters_of mail)
-          → NodeDid true (Ok tt) (acting.propose c e x) (running c x) (running c (record x { synod = after.replica })) sent all
-      proposed free given m after did all says =
-          let round = has_round mail sends in
-          let done = subst (λ b. Did true (Ok given) (cond b (begun batch) (synod.Refuses RoundsSpent)) m after) round did in
-          let letters = subst (λ b. Sends false (Ok mail) (cond b (begun batch) (synod.Refuses RoundsSpent))) round (sends batch) in
-          by_batch (Ok tt) (running c (record x { synod = after.replica })) all round batch closed free (
-            (λ i. running c (record x { synod = (done.1 i).replica; due = (sym is) i })),
-            says ∙ ap (λ l. sent ++ synod_packets c.replicas x.id l) letters ∙ ap (λ ps. sent ++ ps) (sym (append-nil (synod_packets c.replicas x.id (synod.ToAll (Prepare (own_slot x e) (next_ballot x.id.replica x.synod.proposer)))))),
-          )
-
--- what was sent is taken back
-pub taken_back : {A : Type 0} (before more after now : List A) → after ≡ before ++ more → now ≡ take (length before) after → now ≡ before
-taken_back before more after now sent back = back ∙ ap (λ l. take (length before) l) sent ∙ take-append_seam before more
-
-pub reaches : {A : Type 0} (before more after : List A) (n : ℕ) → n ≡ length before → after ≡ before ++ more → n ≤ length after
-reaches before more after n is sent = let h = length-append before more in omega (arith, is, ap length sent, h)
-
--- a member stays of its group, and that replica
-pub names_kept : {B : Type 0} (grows : Bool) (r : Result (Option (Slot × B)) Fault) (d : synod.Deed B) (m after : MemberState B) → Did grows r d m after → (after.size ≡ m.size) × (after.me ≡ m.me)
-names_kept grows (Ok gave) (synod.Refuses f) m after did = absurd did
-names_kept grows (Ok gave) (synod.Does s letters given) m after did = (ap (λ n. n.size) did.1, ap (λ n. n.me) did.1)
-names_kept grows (Err e) (synod.Refuses f) m after did = (ap (λ n. n.size) did.1, ap (λ n. n.me) did.1)
-names_kept grows (Err e) (synod.Does s letters given) m after did = (ap (λ n. n.size) did.2, ap (λ n. n.me) did.2)
+      pub proposed : contains_key x.held (own_slot x e) ≡ false → (size me : ℕ) (r : Result (Option (Slot × Batch Args)) Fault) (after : MemberState (Batch Args)) (all : List (Packet Args Row Reply))
+          → MemberSent true r (ballot batch) c.replicas c.partitions x.id (record { size = size; me = me; replica = x.synod }) after sent all
+          → NodeDid true (ended r) (acting.propose c e x) (running c x) (running c (record x { synod = after.replica })) sent all
+      proposed free size me r after all did = by_round (ended r) (running c (record x { synod = after.replica })) all (has_round mail sends)
+          (subst (λ o. NodeDid true (ended r) (acting.propose_closed c e x o) (running c x) (running c (record x { synod = after.replica })) sent all) (sym closed)
+          (subst (λ b. NodeDid true (ended r) (cond b (Refuses Decided) (by_synod c x (ballot batch))) (running c x) (running c (record x { synod = after.replica })) sent all) (sym free)
+          (by_member Reply c x is sent true size me (ballot batch) r after all (none_begun batch) did)))

@@ -17,7 +17,7 @@ use Rattle.calvin_sched.specs.Keeping.{takes_effect}
 use Rattle.calvin_sched.specs.Progress.{left}
 use Rattle.calvin_sched.specs.Scheduling.{Scheduling, is_done}
 use Rattle.calvin_node.specs.NodeStates.{NodeState, with_sequencer}
-use Rattle.calvin_node.specs.declared.packet.Packet.{Packet}
+use Rattle.calvin_packets.specs.declared.packet.Packet.{Packet}
 use Rattle.calvin_node.specs.Handling.{NodeDeed, by_scheduler}
 use Rattle.calvin_node.specs.Acting.{by_sequencer, lock_by, snapshot_by}
 use Rattle.calvin_node.specs.Running.{Running, NodeDid}

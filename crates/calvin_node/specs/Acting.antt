@@ -23,10 +23,10 @@ use Rattle.calvin_sched.specs.Scheduling.{Turn, Scheduling, turn_at, reads_here,
 use Rattle.calvin_sched.specs.Steps as sched
 use Rattle.calvin_app.specs.Rows.{Rows}
 use Rattle.calvin_sched.specs.Standing.{local_places, take_rows, mark, cool}
-use Rattle.calvin_node.specs.declared.packet.Packet.{Packet}
-use Rattle.calvin_node.specs.declared.packet.Address.TheVariants.{AtNode, AtClient}
-use Rattle.calvin_node.specs.declared.packet.Content.TheVariants.{AskBatch, Reads, AskReads, Replies}
-use Rattle.calvin_node.specs.Packets.{to_each, others, participants, warm_packets}
+use Rattle.calvin_packets.specs.declared.packet.Packet.{Packet}
+use Rattle.calvin_packets.specs.declared.packet.Address.TheVariants.{AtNode, AtClient}
+use Rattle.calvin_packets.specs.declared.packet.Content.TheVariants.{AskBatch, Reads, AskReads, Replies}
+use Rattle.calvin_packets.specs.Packets.{to_each, others, participants, warm_packets}
 use Rattle.calvin_node.specs.NodeStates.{NodeState, site_of, own_slot, with_sequencer, with_scheduler, restarted}
 use Rattle.calvin_node.specs.Handling.{NodeDeed, by_synod, by_scheduler}
 use Rattle.calvin_node.specs.declared.act.Act.{Act}

@@ -6,8 +6,8 @@ use Rattle.calvin_types.specs.Participants.{Site, has_local_key}
 use Rattle.calvin_synod.specs.Cases.{message_grows}
 use Rattle.calvin_order.specs.Configs.{Config}
 use Rattle.calvin_sched.specs.Scheduling.{turn_at, is_read_here}
-use Rattle.calvin_node.specs.declared.packet.Content.{Content}
-use Rattle.calvin_node.specs.declared.packet.Content.TheVariants.{Synod}
+use Rattle.calvin_packets.specs.declared.packet.Content.{Content}
+use Rattle.calvin_packets.specs.declared.packet.Content.TheVariants.{Synod}
 use Rattle.calvin_node.specs.NodeStates.{NodeState, site_of}
 use Rattle.calvin_node.specs.declared.act.Act.{Act}
 use Rattle.calvin_node.specs.declared.act.Act.TheVariants.{Merge, Lock, Begin, Mark}

@@ -1,7 +1,7 @@
 -- What a node makes of a packet: a refusal, or the node after it and the packets that it sends, in their order. Each message
 -- has its case ("Paxos Made Simple", sections 2.2 and 2.3: the synod; Thomson et al. 2012, section 3.1: batches; section 3.2:
 -- remote reads; section 4: rows that are to be in memory). That what is missing is asked for again is of this project.
-use Rattle.std.specs.Prelude.{ℕ, ◌==◌, Bool, false, ◌&&◌, if◌then◌else◌, List, [], ◌∷◌, ◌++◌, Option, Some, None, Result, Ok, Err}
+use Rattle.std.specs.Prelude.{ℕ, ◌==◌, if◌then◌else◌, List, [], ◌∷◌, ◌++◌, Option, Some, None, Result, Ok, Err}
 use Rattle.std.specs.FinMap.{get}
 use Rattle.calvin_types.specs.declared.fault.Fault.{Fault}
 use Rattle.calvin_types.specs.declared.fault.Fault.TheVariants as fault
@@ -18,26 +18,16 @@ use Rattle.calvin_order.specs.Merged.{Batch}
 use Rattle.calvin_sched.specs.Scheduling.{Turn, Scheduling, turn_at, reads_here}
 use Rattle.calvin_sched.specs.Steps.{on_reads, served_at}
 use Rattle.calvin_sched.specs.Standing.{warm}
-use Rattle.calvin_node.specs.declared.packet.Address.{Address}
-use Rattle.calvin_node.specs.declared.packet.Content.{Content}
-use Rattle.calvin_node.specs.declared.packet.Packet.{Packet}
-use Rattle.calvin_node.specs.declared.packet.Address.TheVariants.{AtNode, AtClient}
-use Rattle.calvin_node.specs.declared.packet.Content.TheVariants.{Synod, Decided, AskBatch, Reads, AskReads, Warm, Replies}
-use Rattle.calvin_node.specs.Packets.{to_each, synod_packets, others}
+use Rattle.calvin_packets.specs.declared.packet.Content.{Content}
+use Rattle.calvin_packets.specs.declared.packet.Packet.{Packet}
+use Rattle.calvin_packets.specs.declared.packet.Address.TheVariants.{AtNode}
+use Rattle.calvin_packets.specs.declared.packet.Content.TheVariants.{Synod, Decided, AskBatch, Reads, AskReads, Warm, Replies}
+use Rattle.calvin_packets.specs.Packets.{is_for, synod_packets, telling}
 use Rattle.calvin_node.specs.NodeStates.{NodeState, site_of, with_synod, with_scheduler, holding}
 
 -- what an event makes of a node, and the packets that it sends
 abbrev pub NodeDeed : Type 0 → Type 0 → Type 0 → Type 0
 NodeDeed Args Row Reply = Deed (NodeState Args Row) (List (Packet Args Row Reply))
-
--- whether two names are of one node
-abbrev pub same_node : NodeId → NodeId → Bool
-same_node a b = (a.replica == b.replica) && (a.partition == b.partition)
-
--- whether a packet is for a node
-abbrev pub is_for : Address → NodeId → Bool
-is_for (AtNode id) me = same_node id me
-is_for (AtClient client) me = false
 
 module _ {Args Row : Type 0} where
   -- a batch that is decided here is held
@@ -46,11 +36,6 @@ module _ {Args Row : Type 0} where
   counted x (Some given) = holding x given.0 given.1
 
 module _ {Args Row Reply : Type 0} where
-  -- and told to the other nodes of the own replica
-  abbrev pub telling : ℕ → NodeId → Option (Slot × Batch Args) → List (Packet Args Row Reply)
-  telling parts me None = []
-  telling parts me (Some given) = to_each me me.replica (Decided given.0 given.1) (others parts me.partition)
-
   -- what the node makes of what its synod does
   abbrev pub by_synod : Config → NodeState Args Row → synod.Deed (Batch Args) → NodeDeed Args Row Reply
   by_synod c x (synod.Refuses f) = Refuses f

@@ -6,7 +6,6 @@
 --     kept_rows kept      its rows
 --     config_of partitions replicas points cold delay      what a store is opened with, in which no batch is woven
 --     state_of id member sequencer merge pending scheduler kept      the data of a node with these parts
---     given_by deed      the batch that a replica's learner gives, if it gives one
 --     IsNode partitions replicas id member merge scheduler      the parts of a node are of its store and its name
 --     NodeFinished m job result old new sent all      what a job that was run made of a node, and of what it sent
 --     NodeDid grows result deed old new sent all      what a call made of a node, and of what it sent, by the deed
@@ -21,8 +20,6 @@ use Rattle.calvin_types.specs.Participants.{site}
 use Rattle.calvin_app.specs.declared.job.Job.{Job}
 use Rattle.calvin_app.specs.Meaning.{Meaning}
 use Rattle.calvin_app.specs.Rows.{Rows}
-use Rattle.calvin_types.specs.declared.place.Slot.{Slot}
-use Rattle.calvin_synod.specs.Cases as synod
 use Rattle.calvin_synod.specs.Deeds.{MemberState}
 use Rattle.calvin_order.specs.Configs.{Config}
 use Rattle.calvin_order.specs.Keeping.{Sequenced}
@@ -31,7 +28,7 @@ use Rattle.calvin_order.specs.Merging.{Merging}
 use Rattle.calvin_sched.specs.Keeping.{Scheduled, IsNotDue}
 use Rattle.calvin_sched.specs.Progress.{left}
 use Rattle.calvin_sched.specs.Steps.{job}
-use Rattle.calvin_node.specs.declared.packet.Packet.{Packet}
+use Rattle.calvin_packets.specs.declared.packet.Packet.{Packet}
 use Rattle.calvin_node.specs.NodeStates.{NodeState, site_of}
 use Rattle.calvin_node.specs.Handling.{NodeDeed}
 use Rattle.calvin_node.specs.Acting.{finish}
@@ -80,11 +77,6 @@ pub record IsNode {Args Row : Type 0} (partitions replicas : ℕ) (id : NodeId) 
   pub here : scheduler.here ≡ site partitions id.partition
   -- the scheduler was told of each epoch that is merged
   pub merged : scheduler.merged ≡ merge.next
-
--- the batch that a replica's learner gives, if it gives one
-abbrev pub given_by : {B : Type 0} → synod.Deed B → Option (Slot × B)
-given_by (synod.Refuses fault) = None
-given_by (synod.Does x letters given) = given
 
 module _ {Args Row Reply : Type 0} where
   -- the deed takes effect: the node is what it leaves, settled, and its packets are sent after the others; or it is its refusal, and nothing changed; or memory ran out, where something grows, and nothing changed

@@ -6,9 +6,9 @@ ghost use Rattle.calvin_node.specs.Running.{NodeDid};
 
 use crate::act::Act;
 use crate::node::Node;
-use crate::outbox::Outbox;
-use calvin_app::App;
+use calvin_app::{Answer, App};
 use calvin_lock::Locks;
+use calvin_packets::{Address, Content, Outbox, Packet};
 use calvin_store::Rows;
 use calvin_types::{Fault, Place};
 
@@ -41,7 +41,18 @@ impl<A: App, L: Locks + Drop, S: Rows<A::Row> + Drop> Node<A, L, S> {
     pub fn run(&mut self, place: Place, app: &A, outbox: &mut Outbox<A>) -> Result<(), Fault>
         ensures did { NodeDid true result (acting.finish A.meaning self.old.config place self.old.state) self.old self.new outbox.old.packets outbox.new.packets }
     {
-        let computed = self.job(place)?.compute(app);
-        self.finish(&computed, outbox)
+        self.scheduler.due_is_undone();
+        if outbox.reserve(1).is_err() {
+            let _due = self.scheduler.job(place)?;
+            return Err(Fault::OutOfMemory);
+        }
+        let mut answer = Answer::Changed;
+        let name = self.scheduler.run(place, app, &mut answer)?;
+        outbox.push_reserved(Packet {
+            from: self.id,
+            to: Address::AtClient(name.0.client),
+            content: Content::Replies(place, name.0, name.1, answer),
+        });
+        Ok(())
     }
 }

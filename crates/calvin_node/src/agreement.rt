@@ -4,9 +4,9 @@ ghost use Rattle.calvin_node.specs.Running.{NodeDid};
 ghost use Rattle.std.specs.Prelude.{true};
 
 use crate::node::Node;
-use crate::outbox::Outbox;
 use calvin_app::App;
 use calvin_lock::Locks;
+use calvin_packets::Outbox;
 use calvin_store::Rows;
 use calvin_types::{Fault, Slot};
 
@@ -18,25 +18,18 @@ impl<A: App, L: Locks + Drop, S: Rows<A::Row> + Drop> Node<A, L, S> {
     pub fn propose(&mut self, epoch: u64, outbox: &mut Outbox<A>) -> Result<(), Fault>
         ensures did { NodeDid true result (acting.propose self.old.config epoch self.old.state) self.old self.new outbox.old.packets outbox.new.packets }
     {
-        let _epochs = self.scheduler.merged_epochs();
         let slot = Slot {
             epoch,
             group: self.id.partition,
         };
-        let mail = self.member.prepare_to_all(slot)?;
+        self.member.prepare_to_all(slot)?;
         let Some(batch) = self.sequencer.closed(epoch) else {
             return Err(Fault::NotClosed);
         };
         if self.merge.held(slot).is_some() {
             return Err(Fault::Decided);
         }
-        let batch = batch.copy()?;
-        let sent = outbox.len();
-        outbox.post(self.config.replicas, self.id, mail)?;
-        if let Err(fault) = self.member.propose(slot, batch) {
-            outbox.take_back(sent);
-            return Err(fault);
-        }
+        let _none = outbox.post_ballot(&mut self.member, &self.config, self.id, slot, batch)?;
         Ok(())
     }
 }

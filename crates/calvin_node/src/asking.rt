@@ -7,10 +7,9 @@ ghost use Rattle.calvin_node.specs.NodeStates.{site_of};
 ghost use Rattle.calvin_node.specs.Running.{NodeDid};
 
 use crate::node::Node;
-use crate::outbox::Outbox;
-use crate::packet::{Address, Content, Packet};
 use calvin_app::App;
 use calvin_lock::Locks;
+use calvin_packets::{Address, Content, Outbox, Packet};
 use calvin_store::Rows;
 use calvin_types::{Fault, Few, NodeId, Place, Slot};
 
@@ -29,7 +28,7 @@ impl<A: App, L: Locks + Drop, S: Rows<A::Row> + Drop> Node<A, L, S> {
     pub fn ask_batch(&self, slot: Slot, of: NodeId, outbox: &mut Outbox<A>) -> Result<(), Fault>
         ensures did { NodeDid true result (acting.ask_batch self.now.config slot of self.now.state) self.now self.now outbox.old.packets outbox.new.packets }
     {
-        let _epochs = self.scheduler.merged_epochs();
+        self.scheduler.due_is_undone();
         if !self.is_there(of, slot) {
             return Err(Fault::NoNode);
         }
@@ -69,7 +68,7 @@ impl<A: App, L: Locks + Drop, S: Rows<A::Row> + Drop> Node<A, L, S> {
     pub fn ask_reads(&self, place: Place, replica: u8, outbox: &mut Outbox<A>) -> Result<(), Fault>
         ensures did { NodeDid true result (acting.ask_reads self.now.config place replica self.now.state) self.now self.now outbox.old.packets outbox.new.packets }
     {
-        let _epochs = self.scheduler.merged_epochs();
+        self.scheduler.due_is_undone();
         if replica >= self.config.replicas {
             return Err(Fault::NoNode);
         }

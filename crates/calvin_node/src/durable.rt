@@ -61,7 +61,7 @@ fn scheduler_from<A: App, L: Locks + Drop, S: Rows<A::Row> + Drop>(
     partition: u8,
     kept: &Option<(u64, Snapshot<A::Row>)>,
 ) -> Result<Scheduler<A, L, S>, Fault>
-    ensures ok { IfOk result (λ s. s ≡ record { here = site config.now.partitions partition; scheduling = opened (end_of (kept_epochs kept.now)) (kept_rows kept.now); room = s.room; merged = kept_epochs kept.now; due = [] }) }
+    ensures ok { IfOk result (λ s. s ≡ record { here = site config.now.partitions partition; scheduling = opened (end_of (kept_epochs kept.now)) (kept_rows kept.now); room = s.room; merged = kept_epochs kept.now; due = []; due_room = 0 }) }
     ensures only { IsOkUnless result Fault.OutOfMemory }
 {
     match kept {

@@ -10,10 +10,9 @@ ghost use Rattle.calvin_node.specs.Running.{NodeDid, NodeFinished};
 ghost use Rattle.calvin_node.specs.declared.act.Act.TheVariants as act;
 
 use crate::node::Node;
-use crate::outbox::Outbox;
-use crate::packet::{Address, Content, Packet};
 use calvin_app::{App, Computed, Job};
 use calvin_lock::Locks;
+use calvin_packets::{Address, Content, Outbox, Packet};
 use calvin_store::Rows;
 use calvin_types::{Fault, MOST_KEYS, Place};
 
@@ -27,7 +26,7 @@ impl<A: App, L: Locks + Drop, S: Rows<A::Row> + Drop> Node<A, L, S> {
         let Some((place, txn)) = self.pending.front() else {
             return Err(Fault::NothingToLock);
         };
-        let _epochs = self.scheduler.merged_epochs();
+        self.scheduler.due_is_undone();
         self.scheduler.admit(*place, txn)?;
         let _locked = self.pending.pop_front();
         Ok(())
@@ -40,7 +39,7 @@ impl<A: App, L: Locks + Drop, S: Rows<A::Row> + Drop> Node<A, L, S> {
     pub fn begin(&mut self, place: Place, outbox: &mut Outbox<A>) -> Result<(), Fault>
         ensures did { NodeDid (act_grows self.old.config (act.Begin place) self.old.state) result (acting.begin self.old.config place self.old.state) self.old self.new outbox.old.packets outbox.new.packets }
     {
-        let _epochs = self.scheduler.merged_epochs();
+        self.scheduler.due_is_undone();
         self.scheduler.check_begin(place)?;
         if !self.scheduler.reads_here(place) {
             let _nothing_read = self.scheduler.begin(place)?;
@@ -66,7 +65,7 @@ impl<A: App, L: Locks + Drop, S: Rows<A::Row> + Drop> Node<A, L, S> {
     pub fn finish(&mut self, computed: &Computed<A>, outbox: &mut Outbox<A>) -> Result<(), Fault>
         ensures did { NodeFinished A.meaning computed.now.job result self.old self.new outbox.old.packets outbox.new.packets }
     {
-        let _epochs = self.scheduler.merged_epochs();
+        self.scheduler.due_is_undone();
         if outbox.reserve(1).is_err() {
             self.scheduler.check_finish(computed)?;
             return Err(Fault::OutOfMemory);
@@ -93,7 +92,7 @@ impl<A: App, L: Locks + Drop, S: Rows<A::Row> + Drop> Node<A, L, S> {
     pub fn stands_at(&self) -> Option<u64>
         ensures { result ≡ stands_at self.now.state.scheduler self.now.state.merged_epochs self.now.state.due }
     {
-        let _epochs = self.scheduler.merged_epochs();
+        self.scheduler.due_is_undone();
         self.scheduler.stands_at()
     }
 

@@ -4,7 +4,7 @@ ghost use Rattle.std.specs.FinMap as map;
 ghost use Rattle.calvin_sched.specs.Scheduling.{turn_at};
 ghost use Rattle.calvin_sched.specs.Standing as standing;
 ghost use Rattle.calvin_sched.specs.Steps as steps;
-ghost use Rattle.calvin_node.specs.declared.packet.Content.TheVariants.{Warm};
+ghost use Rattle.calvin_packets.specs.declared.packet.Content.TheVariants.{Warm};
 ghost use Rattle.calvin_node.specs.Growing.{content_grows};
 ghost use Rattle.calvin_node.specs.Handling as handling;
 ghost use Rattle.calvin_node.specs.NodeStates.{site_of};
@@ -12,10 +12,9 @@ ghost use Rattle.calvin_node.specs.Running.{NodeDid};
 
 use crate::deciding::{keep, make_room};
 use crate::node::Node;
-use crate::outbox::Outbox;
-use crate::packet::{Address, Content, Packet};
 use calvin_app::{App, View};
 use calvin_lock::Locks;
+use calvin_packets::{Address, Content, Outbox, Packet};
 use calvin_store::Rows;
 use calvin_types::{Batch, Fault, NodeId, Place, Sets, Slot};
 
@@ -60,7 +59,7 @@ impl<A: App, L: Locks + Drop, S: Rows<A::Row> + Drop> Node<A, L, S> {
     fn on_decided(&mut self, slot: Slot, batch: &Batch<A::Args>) -> Result<(), Fault>
         ensures did { NodeDid {Reply = A.Reply} true result (handling.on_decided slot batch.now self.old.state (map.get self.old.state.held slot)) self.old self.new [] [] }
     {
-        let _epochs = self.scheduler.merged_epochs();
+        self.scheduler.due_is_undone();
         if self.merge.held(slot).is_some() {
             return Err(Fault::Known);
         }
@@ -75,7 +74,7 @@ impl<A: App, L: Locks + Drop, S: Rows<A::Row> + Drop> Node<A, L, S> {
     fn on_ask_batch(&self, from: NodeId, slot: Slot, outbox: &mut Outbox<A>) -> Result<(), Fault>
         ensures did { NodeDid true result (handling.on_ask_batch from slot self.now.state (map.get self.now.state.held slot)) self.now self.now outbox.old.packets outbox.new.packets }
     {
-        let _epochs = self.scheduler.merged_epochs();
+        self.scheduler.due_is_undone();
         let Some(batch) = self.merge.held(slot) else {
             return Err(Fault::NoBatch);
         };
@@ -92,7 +91,7 @@ impl<A: App, L: Locks + Drop, S: Rows<A::Row> + Drop> Node<A, L, S> {
     fn on_reads(&mut self, from: u8, place: Place, rows: &View<A::Row>) -> Result<(), Fault>
         ensures did { NodeDid {Reply = A.Reply} true result (handling.by_scheduler self.old.state (steps.on_reads (site_of self.old.config.partitions self.old.state) place from rows.now self.old.state.scheduler)) self.old self.new [] [] }
     {
-        let _epochs = self.scheduler.merged_epochs();
+        self.scheduler.due_is_undone();
         self.scheduler.on_reads(place, from, rows)
     }
 
@@ -101,7 +100,7 @@ impl<A: App, L: Locks + Drop, S: Rows<A::Row> + Drop> Node<A, L, S> {
     fn on_ask_reads(&self, from: NodeId, place: Place, outbox: &mut Outbox<A>) -> Result<(), Fault>
         ensures did { NodeDid true result (handling.on_ask_reads self.now.config from place self.now.state (turn_at self.now.state.scheduler place)) self.now self.now outbox.old.packets outbox.new.packets }
     {
-        let _epochs = self.scheduler.merged_epochs();
+        self.scheduler.due_is_undone();
         if !self.scheduler.reads_here(place) {
             return Err(Fault::NotServed);
         }
@@ -117,7 +116,7 @@ impl<A: App, L: Locks + Drop, S: Rows<A::Row> + Drop> Node<A, L, S> {
     fn on_warm(&mut self, sets: &Sets) -> Result<(), Fault>
         ensures did { NodeDid {Reply = A.Reply} true result (handling.handle_content self.old.config self.old.state.id (Warm sets.now) self.old.state) self.old self.new [] [] }
     {
-        let _epochs = self.scheduler.merged_epochs();
+        self.scheduler.due_is_undone();
         self.scheduler.warm(sets)
     }
 }

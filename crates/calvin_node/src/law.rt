@@ -7,7 +7,7 @@ ghost use Rattle.calvin_types.specs.declared.place.RequestId.{RequestId};
 ghost use Rattle.calvin_types.specs.Deeds.{Refuses};
 ghost use Rattle.calvin_app.specs.declared.answer.Answer.{Answer};
 ghost use Rattle.calvin_order.specs.Configs.{Config};
-ghost use Rattle.calvin_node.specs.declared.packet.Content.TheVariants.{Replies};
+ghost use Rattle.calvin_packets.specs.declared.packet.Content.TheVariants.{Replies};
 ghost use Rattle.calvin_node.specs.NodeStates.{NodeState, new_node};
 ghost use Rattle.calvin_node.specs.Handling.{NodeDeed, handle_content};
 ghost use Rattle.calvin_node.specs.Acting.{lock};

@@ -1,24 +1,23 @@
 //! What a node makes of the messages of its group's synods.
-ghost use Rattle.std.specs.Prelude.{◌≡◌, ◌==◌, ◌++◌, not, Some, None, false, true, OnOk, OnErr, IsOkUnless};
+ghost use Rattle.std.specs.Prelude.{◌≡◌, None, false, true};
 ghost use Rattle.std.specs.FinMap as map;
 ghost use Rattle.calvin_synod.specs.Cases as cases;
 ghost use Rattle.calvin_synod.specs.Cases.{message_grows};
 ghost use Rattle.calvin_synod.specs.Roles.{completes, knows};
 ghost use Rattle.calvin_synod.specs.declared.message.Message.TheVariants.{Accepted};
-ghost use Rattle.calvin_node.specs.declared.packet.Content.TheVariants.{Synod};
+ghost use Rattle.calvin_packets.specs.declared.packet.Content.TheVariants.{Synod};
 ghost use Rattle.calvin_node.specs.Handling as handling;
-ghost use Rattle.calvin_node.specs.Packets.{others};
-ghost use Rattle.calvin_node.specs.Running.{NodeDid, given_by};
+ghost use Rattle.calvin_packets.specs.Letters.{given_by};
+ghost use Rattle.calvin_node.specs.Running.{NodeDid};
 
 use crate::deciding::{keep, make_room};
 use crate::node::Node;
-use crate::outbox::Outbox;
-use crate::packet::Content;
 use calvin_app::App;
 use calvin_lock::Locks;
+use calvin_packets::Outbox;
 use calvin_store::Rows;
 use calvin_synod::Message;
-use calvin_types::{Ballot, Batch, Fault, Few, NodeId, Slot};
+use calvin_types::{Ballot, Batch, Fault, NodeId, Slot};
 
 impl<A: App, L: Locks + Drop, S: Rows<A::Row> + Drop> Node<A, L, S> {
     /// A message of the synods. Refused with `NotMine` where its slot is of another group.
@@ -68,15 +67,7 @@ impl<A: App, L: Locks + Drop, S: Rows<A::Row> + Drop> Node<A, L, S> {
         requires { given_by (cases.handle self.old.config.replicas from message.now self.old.state.synod) ≡ None }
         ensures did { NodeDid (message_grows message.now) result (handling.by_synod self.old.config self.old.state (cases.handle self.old.config.replicas from message.now self.old.state.synod)) self.old self.new outbox.old.packets outbox.new.packets }
     {
-        let _epochs = self.scheduler.merged_epochs();
-        let mail = self.member.answer(from, message)?;
-        let message = message.copy()?;
-        let sent = outbox.len();
-        outbox.post(self.config.replicas, self.id, mail)?;
-        if let Err(fault) = self.member.take(from, message) {
-            outbox.take_back(sent);
-            return Err(fault);
-        }
+        let _none = outbox.post_answer(&mut self.member, &self.config, self.id, from, message)?;
         Ok(())
     }
 
@@ -93,7 +84,7 @@ impl<A: App, L: Locks + Drop, S: Rows<A::Row> + Drop> Node<A, L, S> {
         requires { vote.now ≡ Accepted slot ballot batch.now }
         ensures did { NodeDid true result (handling.on_vote self.old.config from (Accepted slot ballot batch.now) self.old.state (map.get self.old.state.held slot)) self.old self.new outbox.old.packets outbox.new.packets }
     {
-        let _epochs = self.scheduler.merged_epochs();
+        self.scheduler.due_is_undone();
         if self.merge.held(slot).is_some() {
             return Err(Fault::Known);
         }
@@ -119,54 +110,12 @@ impl<A: App, L: Locks + Drop, S: Rows<A::Row> + Drop> Node<A, L, S> {
         requires last { completes self.old.config.replicas self.old.state.synod.learner slot ballot ≡ true }
         ensures did { NodeDid true result (handling.by_synod self.old.config self.old.state (cases.accepted self.old.config.replicas from self.old.state.synod slot ballot batch.now)) self.old self.new outbox.old.packets outbox.new.packets }
     {
-        let _epochs = self.scheduler.merged_epochs();
-        let vote = vote.copy()?;
+        self.scheduler.due_is_undone();
         let decided = batch.copy()?;
         let own = self.id.partition;
         make_room(&mut self.merge, &mut self.sequencer, own, slot)?;
-        let sent = outbox.len();
-        self.tell_decided(slot, batch, outbox)?;
-        if let Err(fault) = self.member.take(from, vote) {
-            outbox.take_back(sent);
-            return Err(fault);
-        }
+        let _given = outbox.post_answer(&mut self.member, &self.config, self.id, from, vote)?;
         keep(&mut self.merge, &mut self.sequencer, own, slot, decided);
         Ok(())
-    }
-
-    /// Tells the other nodes of the own replica the batch that is decided for a slot. Refused with `OutOfMemory` where a growth
-    /// was refused or the batch can have no more owners: then nothing is sent.
-    fn tell_decided(
-        &self,
-        slot: Slot,
-        batch: &Batch<A::Args>,
-        outbox: &mut Outbox<A>,
-    ) -> Result<(), Fault>
-        ensures told { OnOk result (outbox.new.packets ≡ outbox.old.packets ++ handling.telling self.now.config.partitions self.now.state.id (Some (slot, batch.now))) }
-        ensures err { OnErr result (outbox.new.packets ≡ outbox.old.packets) }
-        ensures only { IsOkUnless result Fault.OutOfMemory }
-    {
-        let content = Content::Decided(slot, batch.copy()?);
-        outbox.post_to_each(self.id, self.id.replica, &content, &self.others())
-    }
-
-    /// Whether a partition is another one.
-    fn is_other(&self, partition: u8) -> bool
-        ensures { result ≡ not (partition == self.now.state.id.partition) }
-    {
-        partition != self.id.partition
-    }
-
-    /// The other partitions, ascending.
-    fn others(&self) -> Few<u8>
-        ensures { result ≡ others self.now.config.partitions self.now.state.id.partition }
-    {
-        let mut partitions = Few::new();
-        for partition in 0..self.config.partitions {
-            if self.is_other(partition) {
-                partitions.push(partition);
-            }
-        }
-        partitions
     }
 }

@@ -14,9 +14,6 @@ mod law;
 mod letters;
 mod node;
 mod ordering;
-mod outbox;
-mod packet;
-mod sending;
 mod snapshots;
 mod submissions;
 
@@ -24,5 +21,3 @@ pub use act::Act;
 pub use durable::Durable;
 pub use law::refuses;
 pub use node::Node;
-pub use outbox::Outbox;
-pub use packet::{Address, Content, Packet};

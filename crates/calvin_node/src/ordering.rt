@@ -24,7 +24,7 @@ impl<A: App, L: Locks + Drop, S: Rows<A::Row> + Drop> Node<A, L, S> {
         let Some(epoch) = self.merge.next() else {
             return Err(Fault::NotComplete);
         };
-        let _epochs = self.scheduler.merged_epochs();
+        self.scheduler.due_is_undone();
         reserve(&mut self.pending, requests.len())?;
         self.scheduler.merged(epoch, &requests)?;
         self.merge.pass_epoch()?;
@@ -40,7 +40,7 @@ fn reserve<Args: Copy>(
 ) -> Result<(), Fault>
     ensures items { pending.new.items ≡ pending.old.items }
     ensures ok { OnOk result (deque_len pending.new + requests ≤ deque_capacity pending.new) }
-    ensures err { IfErr result (λ fault. (fault ≡ Fault.OutOfMemory) × (0 < requests)) }
+    ensures refused { IfErr result (λ fault. (fault ≡ Fault.OutOfMemory) × (0 < requests)) }
 {
     if requests > 0 {
         pending.reserve(requests)?;

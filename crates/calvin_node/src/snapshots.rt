@@ -16,7 +16,7 @@ impl<A: App, L: Locks + Drop, S: Rows<A::Row> + Drop> Node<A, L, S> {
     pub fn mark(&mut self, epoch: u64) -> Result<(), Fault>
         ensures did { NodeDid {Reply = A.Reply} false result (acting.mark_end self.old.config epoch self.old.state) self.old self.new [] [] }
     {
-        let _epochs = self.scheduler.merged_epochs();
+        self.scheduler.due_is_undone();
         self.scheduler.mark(epoch)
     }
 
@@ -26,7 +26,7 @@ impl<A: App, L: Locks + Drop, S: Rows<A::Row> + Drop> Node<A, L, S> {
     pub fn cool(&mut self, key: &Key) -> Result<(), Fault>
         ensures did { NodeDid {Reply = A.Reply} true result (acting.cool_row self.old.config key.now self.old.state) self.old self.new [] [] }
     {
-        let _epochs = self.scheduler.merged_epochs();
+        self.scheduler.due_is_undone();
         self.scheduler.cool(key)
     }
 
@@ -47,7 +47,7 @@ impl<A: App, L: Locks + Drop, S: Rows<A::Row> + Drop> Node<A, L, S> {
     pub fn snapshot(&mut self, epoch: u64) -> Result<(), Fault>
         ensures did { NodeDid {Reply = A.Reply} true result (acting.snapshot epoch self.old.state) self.old self.new [] [] }
     {
-        let _epochs = self.scheduler.merged_epochs();
+        self.scheduler.due_is_undone();
         self.scheduler.can_take(epoch)?;
         if self.has_kept(epoch) {
             return Err(Fault::Older);

@@ -4,9 +4,9 @@ ghost use Rattle.calvin_node.specs.Acting as acting;
 ghost use Rattle.calvin_node.specs.Running.{NodeDid};
 
 use crate::node::Node;
-use crate::outbox::Outbox;
 use calvin_app::App;
 use calvin_lock::Locks;
+use calvin_packets::Outbox;
 use calvin_store::Rows;
 use calvin_types::{Fault, MOST_KEYS, Txn};
 
@@ -25,7 +25,7 @@ impl<A: App, L: Locks + Drop, S: Rows<A::Row> + Drop> Node<A, L, S> {
     pub fn submit_cold(&mut self, txn: Txn<A::Args>, outbox: &mut Outbox<A>) -> Result<(), Fault>
         ensures did { NodeDid true result (acting.submit_cold self.old.config txn self.old.state) self.old self.new outbox.old.packets outbox.new.packets }
     {
-        let _epochs = self.scheduler.merged_epochs();
+        self.scheduler.due_is_undone();
         self.sequencer.check_submit(&txn)?;
         outbox.reserve(MOST_KEYS)?;
         self.sequencer.submit_cold(txn)?;

@@ -3,7 +3,7 @@ use crate::nodes::Nodes;
 use crate::shown::{Letter, batch_of, request};
 use calvin_app::KvRequest;
 use calvin_lock::Locks;
-use calvin_node::{Address, Content, Packet};
+use calvin_packets::{Address, Content, Packet};
 use calvin_synod::{Message, Vote};
 use calvin_types::{Ballot, Batch, Fault, NodeId, Slot};
 use std::alloc::Global;

@@ -2,7 +2,8 @@
 use crate::shown::{Said, Sent, is_same, request};
 use calvin_app::{Kv, KvRequest};
 use calvin_lock::Locks;
-use calvin_node::{Act, Address, Node, Outbox, Packet};
+use calvin_node::{Act, Node};
+use calvin_packets::{Address, Outbox, Packet};
 use calvin_store::{PlainRows, Rows};
 use calvin_types::{Config, Fault, NodeId, Place, Slot};
 use std::alloc::Global;

@@ -4,7 +4,7 @@ use crate::nodes::{Nodes, Step, number_of};
 use crate::shown::{Sent, key, place};
 use calvin_app::{Answer, KvReply, KvRequest};
 use calvin_lock::{ListLocks, Locks, QueueLocks};
-use calvin_node::{Address, Content, Packet};
+use calvin_packets::{Address, Content, Packet};
 use calvin_store::Rows;
 use calvin_types::{Fault, NodeId, Place, RequestId, Slot};
 use std::alloc::Global;

@@ -1,6 +1,6 @@
 //! Requests, batches and packets, to be handed in and compared.
 use calvin_app::{Kv, KvReply, KvRequest};
-use calvin_node::{Address, Content, Packet};
+use calvin_packets::{Address, Content, Packet};
 use calvin_synod::Message;
 use calvin_types::{Ballot, Batch, Fault, Key, KeySet, NodeId, Place, RequestId, Sets, Slot, Txn};
 use std::alloc::Global;

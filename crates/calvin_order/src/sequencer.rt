@@ -216,7 +216,7 @@ impl<Args: Copy> Sequencer<Args> {
     /// The epoch that is closed next. Refused with `EpochsSpent` where it is past the last one.
     fn epoch_to_close(&self) -> Result<u64, Fault>
         ensures ok { IfOk result (λ e. (e ≡ sequencing.next_epoch self.now.sequencing) × (e < MOST_EPOCHS)) }
-        ensures err { OnErr result (MOST_EPOCHS ≤ sequencing.next_epoch self.now.sequencing) }
+        ensures spent { OnErr result (MOST_EPOCHS ≤ sequencing.next_epoch self.now.sequencing) }
         ensures only { IsOkUnless result Fault.EpochsSpent }
     {
         match self.next_epoch() {

@@ -45,6 +45,14 @@ module _ {Args Row : Type 0} (here : Site) (s : Scheduling Args Row) (q : Place)
   by_turn j None is h = refused fault.NotReady j h
   by_turn j (Some x) is h = by_phase x j is x.phase refl h
 
+  -- one job is due at most
+  pub one_job : (i j : Job Args Row) → job here q s ≡ Ok i → job here q s ≡ Ok j → i ≡ j
+  one_job i j h k = ap (λ r. job_or r) (sym h ∙ k)
+    where
+      job_or : Result (Job Args Row) Fault → Job Args Row
+      job_or (Ok o) = o
+      job_or (Err f) = i
+
   -- a job is due where a request has begun
   pub due_begun : (j : Job Args Row) → job here q s ≡ Ok j → IsDue j
   due_begun j h = by_turn j (turn_at s q) refl h

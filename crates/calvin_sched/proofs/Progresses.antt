@@ -1,5 +1,5 @@
 -- What is kept of merged and done epochs stays true at each step.
-use Rattle.std.proofs.Common.{◌≡◌, ◌≢◌, ℕ, suc, ◌+◌, ◌<◌, ◌≤◌, ◌^◌, max, Bool, true, false, cond, not, ◌||◌, ◌⊎◌, inl, inr, List, [], ◌∷◌, ◌++◌, Option, Some, None, refl, sym, ap, subst, ◌∙◌, arith}
+use Rattle.std.proofs.Common.{◌≡◌, ◌≢◌, ℕ, suc, ◌+◌, ◌<◌, ◌≤◌, ◌^◌, max, Bool, true, false, not, ◌||◌, ◌⊎◌, inl, inr, List, [], ◌++◌, Option, Some, None, refl, sym, ap, subst, ◌∙◌, arith}
 use Rattle.std.proofs.lemmas.Bool.{false≢true, or_right, cases_lt}
 use Rattle.std.proofs.lemmas.List.Elements.{filter-append}
 use Rattle.std.proofs.lemmas.Option.{none-some, same_Some}
@@ -17,7 +17,7 @@ use Rattle.calvin_app.specs.Stores.{Store}
 use Rattle.calvin_order.specs.Merged.{end_of}
 use Rattle.calvin_sched.specs.Keeping.{Kept, turns_of, scheduling_of}
 use Rattle.calvin_sched.specs.Scheduling.{Turn, Scheduling, is_before, is_past, is_finished, is_done, turn_done}
-use Rattle.calvin_sched.specs.Progress.{left, done_at, from_left, passes_first, Climbs, IsProgress}
+use Rattle.calvin_sched.specs.Progress.{left, done_at, from_left, passes_first, IsProgress}
 use Rattle.calvin_sched.proofs.DueLists.{left_of_from, left_of_left, left_same, first_of_from, climbs_from, climbs_more, places_of_epoch}
 use Rattle.calvin_sched.specs.Standing.{local_places}
 use Rattle.calvin_sched.proofs.Keepers.{less_of, put_turn, turn_kept}

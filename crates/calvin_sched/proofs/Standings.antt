@@ -1,5 +1,5 @@
 -- At the end of which epochs a scheduler stands, by what it keeps.
-use Rattle.std.proofs.Common.{◌≡◌, ℕ, zero, suc, ◌+◌, ◌≤◌, ◌<◌, Bool, true, false, cond, not, ◌&&◌, ◌||◌, ◌⊎◌, inl, inr, List, [], ◌∷◌, Option, Some, None, refl, sym, ap, subst, ◌∙◌, arith}
+use Rattle.std.proofs.Common.{◌≡◌, ℕ, zero, suc, ◌+◌, ◌≤◌, ◌<◌, Bool, true, false, cond, not, ◌&&◌, ◌||◌, ◌⊎◌, inl, inr, List, [], ◌∷◌, Option, Some, None, refl, sym, ap, ◌∙◌, arith}
 use Rattle.std.proofs.lemmas.Bool.{false≢true, and_parts, or_cases, or_left, or_right, le-leb, leb-true, ltb-true, ltb-false}
 use Rattle.std.specs.Prelude.{◌==◌, nat_le, nat_lt}
 use Rattle.std.specs.Cmp.{both_ways}
@@ -11,7 +11,7 @@ use Rattle.calvin_types.specs.declared.place.Place.{Place}
 use Rattle.calvin_types.specs.Places.{place_cmp}
 use Rattle.calvin_app.specs.Stores.{Store}
 use Rattle.calvin_order.specs.Merged.{end_of}
-use Rattle.calvin_sched.specs.Scheduling.{Turn, Scheduling, is_before, is_finished, is_done, turn_done}
+use Rattle.calvin_sched.specs.Scheduling.{Turn, Scheduling, is_before, is_done, turn_done}
 use Rattle.calvin_sched.specs.Standing.{stands, stands_at, all_done, none_done_from, greatest_below}
 use Rattle.calvin_sched.specs.Keeping.{Kept, turns_of, scheduling_of}
 use Rattle.calvin_sched.specs.Progress.{left, passes_first, end_of_due, Climbs, IsProgress}

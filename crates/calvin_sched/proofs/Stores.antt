@@ -1,5 +1,5 @@
 -- What becomes of a scheduler where its store alone changes.
-use Rattle.std.proofs.Common.{◌≡◌, ℕ, Bool, Option, Result, Ok, Err, ap}
+use Rattle.std.proofs.Common.{ℕ, Bool, Option, Result, Ok, Err, ap}
 use Rattle.std.specs.FinMap.{FinMap}
 use Rattle.calvin_types.specs.declared.fault.Fault.{Fault}
 use Rattle.calvin_types.specs.declared.place.Place.{Place}

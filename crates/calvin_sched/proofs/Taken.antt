@@ -1,23 +1,21 @@
 -- Which snapshots can be taken, by what is kept of the progress of a scheduler; and points at the end of an epoch.
-use Rattle.std.proofs.Common.{◌≡◌, ℕ, suc, ◌+◌, ◌≤◌, ◌<◌, Bool, true, false, cond, not, ◌&&◌, ◌||◌, List, Option, Some, None, refl, sym, ap, subst, ◌∙◌, arith}
-use Rattle.std.proofs.lemmas.Bool.{false≢true, and_parts, le-leb, leb-true, ltb-false, ltb-true, eqb-true}
-use Rattle.std.specs.Prelude.{◌==◌, nat_le, nat_lt}
+use Rattle.std.proofs.Common.{◌≡◌, ℕ, Bool, true, false, cond, ◌&&◌, List, Option, Some, None, refl, sym, ap, ◌∙◌}
+use Rattle.std.proofs.lemmas.Bool.{false≢true}
+use Rattle.std.specs.Prelude.{nat_le}
 use Rattle.std.specs.FinMap.{FinMap}
 use Rattle.std.specs.Ordering.{eq_by_cmp}
 use Rattle.calvin_types.specs.declared.fault.Fault.TheVariants as fault
 use Rattle.calvin_types.specs.declared.place.Place.{Place}
 use Rattle.calvin_types.specs.Deeds.{Deed, Refuses, Does}
 use Rattle.calvin_types.specs.Places.{place_cmp}
-use Rattle.calvin_types.proofs.PlaceOrder.{place_total, place_exact}
 use Rattle.calvin_app.specs.Rows.{Rows}
 use Rattle.calvin_app.specs.Stores.{Store, Point}
 use Rattle.calvin_order.specs.Merged.{end_of}
 use Rattle.calvin_store.specs.Points.{rows_of}
 use Rattle.calvin_sched.specs.Scheduling.{Scheduling}
-use Rattle.calvin_sched.specs.Standing.{stands, all_done, none_done_from, closed_at, take_from, take_rows}
+use Rattle.calvin_sched.specs.Standing.{stands, all_done, closed_at, take_from, take_rows}
 use Rattle.calvin_sched.specs.Keeping.{Kept, turns_of, scheduling_of, takes_effect, is_point_at, rows_at}
 use Rattle.calvin_sched.specs.Progress.{left, end_of_due, IsProgress}
-use Rattle.calvin_sched.proofs.Readiness.{both_true}
 use Rattle.calvin_sched.proofs.Standings.{all_done_is, stands_is}
 
 module _ {Args Row : Type 0} (merged : ℕ) (due : List Place) (n : ℕ) (s : Scheduling Args Row) where

@@ -11,6 +11,7 @@
 --     IsScheduler here s kept locking      what is true of every scheduler
 --     IsNotDue job due fault      why a job that was run isn't taken
 --     Finished m here room job result old new      what a job that was run made of the data
+--     IsNotRun m here room due fault      why a request isn't run
 --     takes_effect deed      it is no refusal
 --     is_point_at n point      the open point is at the end of n epochs
 --     rows_at n store      the rows of that point, or else the present ones
@@ -55,13 +56,14 @@ pub record Seats (Args Row : Type 0) : Type 0 where
   pub room : ℕ
 
 -- its partition, the data, how many rows can be put without growing, how many epochs are merged, and the places at which
--- their requests with a key here are due and not done
+-- their requests with a key here are due and not done, and for how many more of these room is reserved
 pub record Scheduled (Args Row : Type 0) : Type 0 where
   pub here : Site
   pub scheduling : Scheduling Args Row
   pub room : ℕ
   pub merged : ℕ
   pub due : List Place
+  pub due_room : ℕ
 
 module _ {Args Row : Type 0} where
   abbrev pub turns_of : FinMap {K = Place} place_cmp (Kept Args Row) → FinMap {K = Place} place_cmp (Turn Args Row)
@@ -106,6 +108,11 @@ module _ {Args Row : Type 0} where
   Finished m here room j (Err fault) old new =
       (new ≡ old) × (IsNotDue j (job here j.place old) fault
       ⊎ ((fault ≡ OutOfMemory) × (job here j.place old ≡ Ok j) × (room < length (local_writes here (writes_on m j.txn j.view)))))
+
+  -- why a request isn't run, by the job that is due: there is none; or it writes more rows here than there is room for
+  abbrev pub IsNotRun : {Reply : Type 0} → Meaning Args Row Reply → Site → ℕ → Result (Job Args Row) Fault → Fault → Type 0
+  IsNotRun m here room (Err f) fault = fault ≡ f
+  IsNotRun m here room (Ok j) fault = (fault ≡ OutOfMemory) × (room < length (local_writes here (writes_on m j.txn j.view)))
 
 -- a deed is no refusal
 abbrev pub takes_effect : {S Out : Type 0} → Deed S Out → Bool

@@ -7,10 +7,12 @@
 --     end_of_due merged due      the epoch of the first place, or else how many epochs are merged
 --     Climbs low high due      the epochs don't fall, and are between two bounds
 --     IsProgress opened last turns merged done due      what is true of what is kept for it
+--     HasReserved p      there is the room that was reserved for places
 --     merge epoch order s      the next epoch is merged
 use Rattle.std.specs.Prelude.{◌≡◌, ℕ, suc, ◌+◌, ◌<◌, ◌≤◌, ◌^◌, ◌==◌, ◌&&◌, ◌||◌, Bool, true, false, not, if◌then◌else◌, List, [], ◌∷◌, ◌++◌, Option, Some}
 use Rattle.std.specs.List.{filter, list_all}
 use Rattle.std.specs.FinMap.{FinMap, get}
+use Rattle.std.specs.VecDeque.{deque_len, deque_capacity}
 use Rattle.calvin_types.specs.declared.fault.Fault.TheVariants as fault
 use Rattle.calvin_types.specs.declared.place.Place.{Place}
 use Rattle.calvin_types.specs.Deeds.{Deed, Refuses, Does}
@@ -20,6 +22,7 @@ use Rattle.calvin_order.specs.Merged.{end_of}
 use Rattle.calvin_sched.specs.Scheduling.{Turn, Scheduling, is_before, is_past, is_finished, is_done, turn_done}
 use Rattle.calvin_sched.specs.Standing.{local_places}
 use Rattle.calvin_sched.specs.Keeping.{Scheduled, Kept, turns_of}
+use Rattle.calvin_sched.specs.declared.progress.Progress.{Progress}
 
 -- the places from the first one on that isn't done
 abbrev pub from_left : (Place → Bool) → List Place → List Place
@@ -40,6 +43,10 @@ end_of_due merged (q ∷ due) = q.epoch
 abbrev pub Climbs : ℕ → ℕ → List Place → Type 0
 Climbs low high [] = low ≤ high
 Climbs low high (q ∷ due) = (low ≤ q.epoch) × Climbs q.epoch high due
+
+-- there is the room that was reserved for places
+abbrev pub HasReserved : Progress → Type 0
+HasReserved p = deque_len p.due + p.room ≤ deque_capacity p.due
 
 module _ {Args Row : Type 0} where
   -- the places that aren't done
@@ -62,9 +69,10 @@ module _ {Args Row : Type 0} where
     pub first : passes_first (λ q. is_before q (end_of opened) || turn_done (get turns q)) due ≡ false
     pub climbs : Climbs 0 merged due
 
-  -- the next epoch is merged and has these requests: those with a key here are due, as far as they aren't done
+  -- the next epoch is merged and has these requests: those with a key here are due, as far as they aren't done, and the room
+  -- that was reserved for them is taken
   abbrev pub merge : ℕ → Order Args → Scheduled Args Row → Deed (Scheduled Args Row) (Unit {0})
   merge epoch order s =
       if (epoch == s.merged) && list_all (λ e. e.0.epoch == epoch) order
-      then Does (record s { merged = suc s.merged; due = s.due ++ left s.scheduling (local_places s.here order) }) tt
+      then Does (record s { merged = suc s.merged; due = s.due ++ left s.scheduling (local_places s.here order); due_room = 0 }) tt
       else Refuses fault.AdmittedOutOfOrder

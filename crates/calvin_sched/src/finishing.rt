@@ -1,5 +1,5 @@
 //! What came of a job, compared with the job that is due, and the part of its writes that is stored here.
-ghost use Rattle.std.specs.Prelude.{◌≡◌, MatchBool};
+ghost use Rattle.std.specs.Prelude.{◌≡◌, IsTrue, MatchBool};
 ghost use Rattle.calvin_types.specs.Participants.{site};
 ghost use Rattle.calvin_sched.specs.Scheduling.{local_writes};
 
@@ -11,6 +11,19 @@ pub(crate) fn is_same_job<A: App>(one: &Job<A::Args, A::Row>, other: &Job<A::Arg
     ensures { one.now.place ≡ other.now.place → MatchBool result (one.now ≡ other.now) (one.now ≡ other.now → ⊥) }
 {
     one.txn == other.txn && one.view.is_same(&other.view)
+}
+
+/// Whether all writes have keys that are stored in a partition.
+pub(crate) fn are_local<A: App>(writes: &Writes<A::Row>, config: &Config, partition: u8) -> bool
+    ensures { IsTrue result → writes.now ≡ local_writes (site config.now.partitions partition) writes.now }
+{
+    for i in 0..writes.len() {
+        let (key, _row) = writes.at(i);
+        if config.partition_of(&key) != partition {
+            return false;
+        }
+    }
+    true
 }
 
 /// The writes whose keys are stored in a partition.

@@ -10,6 +10,7 @@ mod law;
 mod phase;
 mod progress;
 mod reading;
+mod running;
 mod scheduler;
 mod serving;
 mod snapshots;

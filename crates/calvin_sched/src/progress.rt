@@ -1,12 +1,11 @@
 //! How far the epochs are merged and done.
-ghost use Rattle.std.specs.Prelude.{◌≡◌, ◌⊎◌, ◌&&◌, MatchBool, ◌++◌, ◌+◌, ◌≤◌, ◌<◌, ◌==◌, nat_le, [], max, length, OnOk, IfErr};
+ghost use Rattle.std.specs.Prelude.{◌≡◌, ◌⊎◌, ◌&&◌, MatchBool, ◌++◌, ◌+◌, ◌≤◌, ◌<◌, ◌==◌, nat_le, [], max, length, OnOk, OnErr, IfErr};
 ghost use Rattle.std.specs.List.{list_all};
-ghost use Rattle.std.specs.VecDeque.{deque_len, deque_capacity};
 ghost use Rattle.calvin_types.specs.Participants.{site};
 ghost use Rattle.calvin_sched.specs.Standing.{local_places};
 ghost use Rattle.calvin_order.specs.Merged.{end_of};
 ghost use Rattle.calvin_sched.specs.Scheduling.{is_before};
-ghost use Rattle.calvin_sched.specs.Progress.{from_left, end_of_due, done_at, passes_first};
+ghost use Rattle.calvin_sched.specs.Progress.{from_left, end_of_due, done_at, passes_first, HasReserved};
 
 use crate::turns::Turns;
 use calvin_app::App;
@@ -15,12 +14,13 @@ use std::alloc::Global;
 use std::collections::VecDeque;
 
 /// How many epochs are merged; one more than the greatest epoch of which anything is done, or 0; and the places at which
-/// requests of merged epochs are due, from the first one on that isn't done.
+/// requests of merged epochs are due, from the first one on that isn't done, with the room that was reserved for more.
 #[derive(Drop)]
 pub(crate) struct Progress {
     pub merged: u128,
     pub done: u128,
     pub due: VecDeque<Place>,
+    pub room: usize,
 }
 
 impl Progress {
@@ -29,11 +29,14 @@ impl Progress {
         ensures merged { result.merged ≡ epochs }
         ensures done { result.done ≡ 0 }
         ensures due { result.due.items ≡ [] }
+        ensures room { result.room ≡ 0 }
+        ensures reserved { HasReserved result }
     {
         Progress {
             merged: epochs,
             done: 0,
             due: VecDeque::new(alloc),
+            room: 0,
         }
     }
 
@@ -87,9 +90,12 @@ impl Progress {
 
     /// Drops the first places as long as they are done.
     pub fn skip_done<A: App>(&mut self, opened: u128, turns: &Turns<A>)
+        requires { HasReserved self.old }
         ensures merged { self.new.merged ≡ self.old.merged }
         ensures done { self.new.done ≡ self.old.done }
         ensures due { self.new.due.items ≡ from_left (done_at opened turns.now.kept) self.old.due.items }
+        ensures room { self.new.room ≡ self.old.room }
+        ensures reserved { HasReserved self.new }
     {
         while self.is_first_done(opened, turns) {
             let _done = self.due.pop_front();
@@ -98,9 +104,12 @@ impl Progress {
 
     /// The request at a place is done.
     pub fn finish<A: App>(&mut self, place: Place, opened: u128, turns: &Turns<A>)
+        requires { HasReserved self.old }
         ensures merged { self.new.merged ≡ self.old.merged }
         ensures done { self.new.done ≡ max self.old.done (place.epoch + 1) }
         ensures due { self.new.due.items ≡ from_left (done_at opened turns.now.kept) self.old.due.items }
+        ensures room { self.new.room ≡ self.old.room }
+        ensures reserved { HasReserved self.new }
     {
         self.done = self.done.max(u128::from(place.epoch) + 1);
         self.skip_done(opened, turns);
@@ -113,21 +122,25 @@ impl Progress {
         config: &Config,
         partition: u8,
     ) -> Result<(), Fault>
+        requires { HasReserved self.old }
         ensures merged { self.new.merged ≡ self.old.merged }
         ensures done { self.new.done ≡ self.old.done }
         ensures due { self.new.due.items ≡ self.old.due.items }
-        ensures ok { OnOk result (deque_len self.new.due + length (local_places (site config.now.partitions partition) entries.now) ≤ deque_capacity self.new.due) }
-        ensures err { IfErr result (λ fault. (fault ≡ Fault.OutOfMemory) × (0 < length (local_places (site config.now.partitions partition) entries.now))) }
+        ensures reserved { HasReserved self.new }
+        ensures ok { OnOk result (self.new.room ≡ max (length (local_places (site config.now.partitions partition) entries.now)) self.old.room) }
+        ensures err { OnErr result (self.new.room ≡ self.old.room) }
+        ensures refused { IfErr result (λ fault. (fault ≡ Fault.OutOfMemory) × (self.old.room < length (local_places (site config.now.partitions partition) entries.now))) }
     {
         let places = count_local(entries, config, partition);
-        if places > 0 {
+        if places > self.room {
             self.due.reserve(places)?;
+            self.room = places;
         }
         Ok(())
     }
 
     /// An epoch is merged and has these requests: the places of those with a key that is stored in the partition are due.
-    /// There is room for them.
+    /// The room that was reserved for them is taken.
     pub fn merge<Args: Copy>(
         &mut self,
         epoch: u64,
@@ -135,12 +148,16 @@ impl Progress {
         config: &Config,
         partition: u8,
     )
-        requires { deque_len self.old.due + length (local_places (site config.now.partitions partition) entries.now) ≤ deque_capacity self.old.due }
+        requires reserved { HasReserved self.old }
+        requires room { length (local_places (site config.now.partitions partition) entries.now) ≤ self.old.room }
         ensures merged { self.new.merged ≡ epoch + 1 }
         ensures done { self.new.done ≡ self.old.done }
         ensures due { self.new.due.items ≡ self.old.due.items ++ local_places (site config.now.partitions partition) entries.now }
+        ensures room { self.new.room ≡ 0 }
+        ensures reserved { HasReserved self.new }
     {
         self.merged = u128::from(epoch) + 1;
+        self.room = 0;
         for i in 0..entries.len() {
             if entries[i].1.is_participant(config, partition) {
                 self.due.push_back_reserved(entries[i].0);

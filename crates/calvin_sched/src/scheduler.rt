@@ -7,8 +7,8 @@ ghost use Rattle.calvin_types.specs.Participants.{site, has_local_key, is_active
 ghost use Rattle.calvin_order.specs.Merged.{end_of};
 ghost use Rattle.calvin_sched.specs.Keeping.{awaited, awaits_at, IsFirstReadyHere, IsNotDue, Finished};
 ghost use Rattle.calvin_sched.specs.Progress.{left, merge};
-ghost use Rattle.calvin_sched.specs.Standing.{stands_at};
-ghost use Rattle.calvin_sched.specs.Scheduling.{Turn as Turning, new_turn, opened, is_past, is_before, turn_at, local_writes};
+ghost use Rattle.calvin_sched.specs.Standing.{local_places, stands_at};
+ghost use Rattle.calvin_sched.specs.Scheduling.{Turn as Turning, new_turn, opened, is_past, is_before, turn_at, whole_view, local_writes};
 ghost use Rattle.calvin_sched.specs.Steps as steps;
 ghost use Rattle.calvin_sched.specs.declared.phase.Phase.TheVariants.{Waiting};
 
@@ -46,7 +46,7 @@ impl<A: App, L: Locks + Drop, S: Rows<A::Row> + Drop> Model for Scheduler<A, L, 
     ghost use Rattle.std.specs.FinMap.{code};
     ghost use Rattle.calvin_types.specs.Participants.{site};
     ghost use Rattle.calvin_sched.specs.Keeping.{Scheduled, scheduling_of, turns_of, IsScheduler};
-    ghost use Rattle.calvin_sched.specs.Progress.{left, IsProgress};
+    ghost use Rattle.calvin_sched.specs.Progress.{left, IsProgress, HasReserved};
 
     ghost Value = { Scheduled A.Args A.Row };
 
@@ -58,16 +58,17 @@ impl<A: App, L: Locks + Drop, S: Rows<A::Row> + Drop> Model for Scheduler<A, L, 
       room = S.room s.rows;
       merged = s.progress.merged;
       due = left (scheduling_of s.opened s.last s.turns.kept (S.store s.rows)) s.progress.due.items;
+      due_room = s.progress.room;
     } };
 
     ghost invariant = { λ s. IsScheduler (site s.config.partitions s.partition) (scheduling_of s.opened s.last s.turns.kept (S.store s.rows)) s.turns.kept (L.kept s.locks)
-        × IsProgress s.opened s.last (turns_of s.turns.kept) s.progress.merged s.progress.done s.progress.due.items };
+        × IsProgress s.opened s.last (turns_of s.turns.kept) s.progress.merged s.progress.done s.progress.due.items × HasReserved s.progress };
 }
 
 impl<A: App, L: Locks + Drop, S: Rows<A::Row> + Drop> Scheduler<A, L, S> {
     /// A scheduler on no rows: no request is admitted.
     pub fn new(alloc: Global, config: &Config, partition: u8) -> Scheduler<A, L, S>
-        ensures { result ≡ record { here = site config.now.partitions partition; scheduling = opened (end_of 0) map.empty; room = 0; merged = 0; due = [] } }
+        ensures { result ≡ record { here = site config.now.partitions partition; scheduling = opened (end_of 0) map.empty; room = 0; merged = 0; due = []; due_room = 0 } }
     {
         Scheduler::open(alloc, config, partition, S::empty(alloc), 0)
     }
@@ -81,7 +82,7 @@ impl<A: App, L: Locks + Drop, S: Rows<A::Row> + Drop> Scheduler<A, L, S> {
         snapshot: &Snapshot<A::Row>,
         epoch: u64,
     ) -> Result<Scheduler<A, L, S>, Fault>
-        ensures ok { IfOk result (λ s. s ≡ record { here = site config.now.partitions partition; scheduling = opened (end_of (epoch + 1)) snapshot.now; room = s.room; merged = epoch + 1; due = [] }) }
+        ensures ok { IfOk result (λ s. s ≡ record { here = site config.now.partitions partition; scheduling = opened (end_of (epoch + 1)) snapshot.now; room = s.room; merged = epoch + 1; due = []; due_room = 0 }) }
         ensures only { IsOkUnless result Fault.OutOfMemory }
     {
         let mut rows = S::empty(alloc);
@@ -98,7 +99,7 @@ impl<A: App, L: Locks + Drop, S: Rows<A::Row> + Drop> Scheduler<A, L, S> {
         epochs: u128,
     ) -> Scheduler<A, L, S>
         requires { epochs ≤ 2 ^ 64 }
-        ensures { result ≡ record { here = site config.now.partitions partition; scheduling = record (opened (end_of epochs) map.empty) { store = S.store rows }; room = S.room rows; merged = epochs; due = [] } }
+        ensures { result ≡ record { here = site config.now.partitions partition; scheduling = record (opened (end_of epochs) map.empty) { store = S.store rows }; room = S.room rows; merged = epochs; due = []; due_room = 0 } }
     {
         Scheduler {
             alloc,
@@ -172,7 +173,7 @@ impl<A: App, L: Locks + Drop, S: Rows<A::Row> + Drop> Scheduler<A, L, S> {
     pub(crate) fn ready_to_begin(&self, place: Place) -> Result<bool, Fault>
         ensures ok { IfOk result (λ active. (x : Turning A.Args A.Row) × (turn_at self.now.scheduling place ≡ Some x) × (x.phase ≡ Waiting)
             × (steps.is_ready self.now.here self.now.scheduling place x.request ≡ true) × (active ≡ is_active self.now.here x.request)) }
-        ensures err { IfErr result (λ fault. steps.begin self.now.here place self.now.scheduling ≡ Refuses fault) }
+        ensures refused { IfErr result (λ fault. steps.begin self.now.here place self.now.scheduling ≡ Refuses fault) }
     {
         let Some(turn) = self.turn(place) else {
             return Err(Fault::NotReady);
@@ -232,10 +233,10 @@ impl<A: App, L: Locks + Drop, S: Rows<A::Row> + Drop> Scheduler<A, L, S> {
         }
     }
 
-    /// What is to be run at a place. Refused with `NotReady` where the request has not begun or is done, else with
-    /// `ReadsMissing` where rows of another partition are still to come. It takes no memory.
-    pub fn job(&self, place: Place) -> Result<Job<A::Args, A::Row>, Fault>
-        ensures { result ≡ steps.job self.now.here place self.now.scheduling }
+    /// The request that is to be run at a place. Refused as `job` is.
+    pub(crate) fn due(&self, place: Place) -> Result<&Turn<A>, Fault>
+        ensures ok { IfOk result (λ turn. steps.job self.now.here place self.now.scheduling ≡ Ok (record { place = place; txn = turn.now.turn.request; view = whole_view self.now.here turn.now.turn })) }
+        ensures refused { IfErr result (λ fault. steps.job self.now.here place self.now.scheduling ≡ Err fault) }
     {
         let Some(turn) = self.turn(place) else {
             return Err(Fault::NotReady);
@@ -247,6 +248,15 @@ impl<A: App, L: Locks + Drop, S: Rows<A::Row> + Drop> Scheduler<A, L, S> {
         if !turn.is_collected(&self.config, self.partition) {
             return Err(Fault::ReadsMissing);
         }
+        Ok(turn)
+    }
+
+    /// What is to be run at a place. Refused with `NotReady` where the request has not begun or is done, else with
+    /// `ReadsMissing` where rows of another partition are still to come. It takes no memory.
+    pub fn job(&self, place: Place) -> Result<Job<A::Args, A::Row>, Fault>
+        ensures { result ≡ steps.job self.now.here place self.now.scheduling }
+    {
+        let turn = self.due(place)?;
         Ok(Job {
             place,
             txn: *turn.txn(),
@@ -258,7 +268,7 @@ impl<A: App, L: Locks + Drop, S: Rows<A::Row> + Drop> Scheduler<A, L, S> {
     /// `StaleJob` where it is another.
     pub(crate) fn check_due(&self, job: &Job<A::Args, A::Row>) -> Result<(), Fault>
         ensures ok { OnOk result (steps.job self.now.here job.now.place self.now.scheduling ≡ Ok job.now) }
-        ensures err { IfErr result (IsNotDue job.now (steps.job self.now.here job.now.place self.now.scheduling)) }
+        ensures refused { IfErr result (IsNotDue job.now (steps.job self.now.here job.now.place self.now.scheduling)) }
     {
         let Ok(due) = self.job(job.place) else {
             return Err(Fault::NotCollected);
@@ -290,14 +300,9 @@ impl<A: App, L: Locks + Drop, S: Rows<A::Row> + Drop> Scheduler<A, L, S> {
         ensures rest { self.new ≡ record self.old { scheduling = self.new.scheduling; room = self.new.room; due = self.new.due } }
         ensures due { self.new.due ≡ left self.new.scheduling self.old.due }
     {
-        let place = computed.job.place;
         self.check_due(&computed.job)?;
         let writes = local_part::<A>(&computed.writes, &self.config, self.partition);
-        self.rows.reserve(writes.len())?;
-        self.rows.put_all(place, &writes);
-        self.turns.finish(place);
-        let _released = self.locks.release(place);
-        self.progress.finish(place, self.opened, &self.turns);
+        self.apply(computed.job.place, &writes)?;
         Ok(computed.answer)
     }
 
@@ -325,9 +330,10 @@ impl<A: App, L: Locks + Drop, S: Rows<A::Row> + Drop> Scheduler<A, L, S> {
     /// Tells that the next epoch is merged and has these requests: of those with a key here the places are due, whether they
     /// are admitted before or after it. It takes time by their number. Refused with `AdmittedOutOfOrder` where the epoch
     /// isn't the next one, counted from 0, or an entry's place isn't of this epoch; else with `OutOfMemory` where a request
-    /// has a key here and a growth was refused.
+    /// has a key here, no room was reserved for it, and a growth was refused.
     pub fn merged(&mut self, epoch: u64, entries: &[(Place, Txn<A::Args>)]) -> Result<(), Fault>
-        ensures { Did (list_any (λ e. has_local_key self.old.here e.1) entries.now) result (merge epoch entries.now self.old) self.old self.new }
+        ensures reserved { length (local_places self.old.here entries.now) ≤ self.old.due_room → IsOkUnless result Fault.AdmittedOutOfOrder }
+        ensures did { Did (list_any (λ e. has_local_key self.old.here e.1) entries.now) result (merge epoch entries.now self.old) self.old self.new }
     {
         if !self.progress.is_next(epoch, entries) {
             return Err(Fault::AdmittedOutOfOrder);
@@ -338,6 +344,16 @@ impl<A: App, L: Locks + Drop, S: Rows<A::Row> + Drop> Scheduler<A, L, S> {
             .merge(epoch, entries, &self.config, self.partition);
         self.progress.skip_done(self.opened, &self.turns);
         Ok(())
+    }
+
+    /// Room for the places of these requests, so that `merged`, where it is told them next, takes no memory. Refused with
+    /// `OutOfMemory`.
+    pub fn reserve_merged(&mut self, entries: &[(Place, Txn<A::Args>)]) -> Result<(), Fault>
+        ensures ok { OnOk result (self.new ≡ record self.old { due_room = max (length (local_places self.old.here entries.now)) self.old.due_room }) }
+        ensures err { OnErr result (self.new ≡ self.old) }
+        ensures only { IsOkUnless result Fault.OutOfMemory }
+    {
+        self.progress.reserve(entries, &self.config, self.partition)
     }
 
     /// The greatest epoch at whose end the partition stands: it and all before it are merged, what they have to do here is

@@ -24,7 +24,7 @@ impl<A: App, L: Locks + Drop, S: Rows<A::Row> + Drop> Scheduler<A, L, S> {
     /// Refuses where `take` refuses for another cause than memory, which is `NotAtEnd`.
     pub fn can_take(&self, epoch: u64) -> Result<(), Fault>
         ensures ok { OnOk result (takes_effect (standing.take_rows self.now.merged self.now.due (epoch + 1) self.now.scheduling) ≡ true) }
-        ensures err { IfErr result (λ fault. standing.take_rows self.now.merged self.now.due (epoch + 1) self.now.scheduling ≡ Refuses fault) }
+        ensures refused { IfErr result (λ fault. standing.take_rows self.now.merged self.now.due (epoch + 1) self.now.scheduling ≡ Refuses fault) }
     {
         let end = u128::from(epoch) + 1;
         if !self.progress.is_done_up_to(end) {

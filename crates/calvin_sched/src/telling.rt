@@ -13,13 +13,11 @@ use calvin_store::Rows;
 use calvin_types::{Fault, Place};
 
 impl<A: App, L: Locks + Drop, S: Rows<A::Row> + Drop> Scheduler<A, L, S> {
-    /// How many epochs are merged, those of a loaded snapshot among them. Of the places at which their requests are due only
-    /// those that aren't done are kept.
-    pub fn merged_epochs(&self) -> u128
-        ensures merged { result ≡ self.now.merged }
-        ensures undone { left self.now.scheduling self.now.due ≡ self.now.due }
+    /// No request that is due is done. The call only says so, and does nothing.
+    pub fn due_is_undone(&self)
+        ensures { left self.now.scheduling self.now.due ≡ self.now.due }
     {
-        self.progress.merged
+        let _due = self.progress.merged;
     }
 
     /// Whether the request that is admitted at a place, if one is, reads a key that is stored here.
@@ -39,7 +37,7 @@ impl<A: App, L: Locks + Drop, S: Rows<A::Row> + Drop> Scheduler<A, L, S> {
     /// Refuses where `begin` refuses.
     pub fn check_begin(&self, place: Place) -> Result<(), Fault>
         ensures ok { OnOk result (takes_effect (steps.begin self.now.here place self.now.scheduling) ≡ true) }
-        ensures err { IfErr result (λ fault. steps.begin self.now.here place self.now.scheduling ≡ Refuses fault) }
+        ensures refused { IfErr result (λ fault. steps.begin self.now.here place self.now.scheduling ≡ Refuses fault) }
     {
         let _is_active = self.ready_to_begin(place)?;
         Ok(())
@@ -49,7 +47,7 @@ impl<A: App, L: Locks + Drop, S: Rows<A::Row> + Drop> Scheduler<A, L, S> {
     /// with `StaleJob` where another one is.
     pub fn check_finish(&self, computed: &Computed<A>) -> Result<(), Fault>
         ensures ok { OnOk result (steps.job self.now.here computed.now.job.place self.now.scheduling ≡ Ok computed.now.job) }
-        ensures err { IfErr result (IsNotDue computed.now.job (steps.job self.now.here computed.now.job.place self.now.scheduling)) }
+        ensures refused { IfErr result (IsNotDue computed.now.job (steps.job self.now.here computed.now.job.place self.now.scheduling)) }
     {
         self.check_due(&computed.job)
     }

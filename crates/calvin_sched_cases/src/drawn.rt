@@ -6,6 +6,7 @@ use calvin_app::{Answer, Kv, KvReply, View};
 use calvin_bench::{OneReplica, Outcome, Step};
 use calvin_lock::{ListLocks, Locks, QueueLocks};
 use calvin_store::{PlainRows, Rows};
+use calvin_store_cases::ListRows;
 use calvin_types::{Config, Fault, Few, Key, MOST_KEYS};
 use rand_pcg::Pcg32;
 use std::alloc::Global;
@@ -103,10 +104,10 @@ fn end_of(outcome: &Result<Outcome<u64, KvReply>, Fault>) -> End {
 }
 
 /// Where each partition stands, and its rows.
-fn compare_state<L: Locks + Drop>(
+fn compare_state<L: Locks + Drop, S: Rows<u64> + Drop>(
     rt: &impl Abort,
     count: u8,
-    replica: &OneReplica<Kv, L, PlainRows<u64>>,
+    replica: &OneReplica<Kv, L, S>,
     plain: &PlainReplica,
 ) -> Result<(), Fault> {
     for p in 0..count {
@@ -123,11 +124,11 @@ fn compare_state<L: Locks + Drop>(
 }
 
 /// Does steps, and compares what came of each, and the state after them.
-fn compare_steps<L: Locks + Drop>(
+fn compare_steps<L: Locks + Drop, S: Rows<u64> + Drop>(
     rt: &impl Abort,
     count: u8,
     steps: &[Step],
-    replica: &mut OneReplica<Kv, L, PlainRows<u64>>,
+    replica: &mut OneReplica<Kv, L, S>,
     plain: &mut PlainReplica,
     reached: &mut Reached,
 ) -> Result<(), Fault> {
@@ -143,7 +144,7 @@ fn compare_steps<L: Locks + Drop>(
 
 /// An order and steps that are drawn from a start number, a few steps at a time, and then all that is left to be done, which
 /// isn't counted.
-fn compare<L: Locks + Drop>(
+fn compare<L: Locks + Drop, S: Rows<u64> + Drop>(
     rt: &impl Abort,
     alloc: Global,
     count: u8,
@@ -153,7 +154,7 @@ fn compare<L: Locks + Drop>(
     let mut generator = Pcg32::new(start, 7);
     let entries = order(&mut generator, alloc, 30)?;
     let config = Config::new(count, 1)?;
-    let mut replica: OneReplica<Kv, L, PlainRows<u64>> = OneReplica::new(
+    let mut replica: OneReplica<Kv, L, S> = OneReplica::new(
         alloc,
         Kv,
         &config,
@@ -206,8 +207,10 @@ fn as_the_plain_evaluation(rt: HostRuntime) -> Result<(), Fail> {
     let mut reached = Reached::new(alloc);
     for count in [1, 2, 3, 5] {
         for start in 1..21 {
-            compare::<ListLocks>(&rt, alloc, count, start, &mut reached)?;
-            compare::<QueueLocks>(&rt, alloc, count, start, &mut reached)?;
+            compare::<ListLocks, PlainRows<u64>>(&rt, alloc, count, start, &mut reached)?;
+            compare::<QueueLocks, PlainRows<u64>>(&rt, alloc, count, start, &mut reached)?;
+            compare::<ListLocks, ListRows<u64>>(&rt, alloc, count, start, &mut reached)?;
+            compare::<QueueLocks, ListRows<u64>>(&rt, alloc, count, start, &mut reached)?;
         }
     }
     let (steps, effects) = (reached.steps, reached.effects);

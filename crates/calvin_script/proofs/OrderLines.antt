@@ -1,12 +1,8 @@
 -- The lines of an order are read line by line, and make an order where they are the lines of one.
 --     after ds found      the lines that a list spells of which ds is left, where those found were read before
-use Rattle.std.proofs.Common.{◌≡◌, ◌⊎◌, inl, inr, ℕ, suc, ◌+◌, ◌≤◌, ◌<◌, Bool, true, false, List, [], ◌∷◌, ◌++◌, length, Option, Some, None, option_map, option_and_then, nat_le, drop, get_or, append_assoc, refl, sym, ap, ◌∙◌, arith}
+use Rattle.std.proofs.Common.{◌≡◌, ℕ, suc, ◌+◌, ◌≤◌, ◌<◌, Bool, true, false, List, [], ◌∷◌, ◌++◌, length, Option, Some, None, option_map, option_and_then, nat_le, drop, get_or, append_assoc, refl, sym, ap, ◌∙◌, arith}
 use Rattle.std.proofs.Props.{props}
-use Rattle.std.specs.Prelude.{IsTrue, ◌↔◌, ◌&&◌, Result, Ok, Err, IfOk, IfErr, IsErrOf}
-use Rattle.std.specs.Result.{result_ok}
-use Rattle.std.proofs.Math.Bool.{and-false}
-use Rattle.calvin_types.specs.declared.fault.Fault.{Fault}
-use Rattle.calvin_types.specs.declared.fault.Fault.TheVariants.{Repeated, BadConfig}
+use Rattle.std.specs.Prelude.{IsTrue, IfSome}
 use Rattle.std.proofs.lemmas.Bool.{false≢true}
 use Rattle.std.proofs.lemmas.List.{drop_more, append-nil}
 use Rattle.std.proofs.lemmas.Bool.Decides.{nat_tests}
@@ -15,7 +11,7 @@ use Rattle.serde_json.specs.declared.value.Value.{Value}
 use Rattle.serde_json.specs.Data.{Data, Items, no_items, item}
 use Rattle.calvin_stock.specs.declared.order.Line.{Line}
 use Rattle.calvin_stock.specs.declared.order.Order.{Order}
-use Rattle.calvin_stock.specs.Lines.{has_distinct_items, are_in_range, are_lines}
+use Rattle.calvin_stock.specs.Lines.{are_lines}
 use Rattle.calvin_script.specs.Spelling.{each}
 use Rattle.calvin_script.specs.StockOperations.{line, few, order_if, order_of_lines}
 
@@ -78,13 +74,8 @@ unmade u n ls out = go (are_lines ls) refl where
   go true h = absurd (false≢true (sym out ∙ h))
   go false h = refl
 
-out_of : (ls : List Line) (fault : Fault) → (IsErrOf {T = Order} (Err fault) Repeated ↔ (has_distinct_items ls ≡ false)) → (IsErrOf {T = Order} (Err fault) BadConfig ↔ ((has_distinct_items ls ≡ true) × (are_in_range ls ≡ false))) → (fault ≡ Repeated) ⊎ (fault ≡ BadConfig) → are_lines ls ≡ false
-out_of ls fault twice range (inl is) = ap (λ b. are_in_range ls && b) (twice.0 (ap Err is)) ∙ and-false (are_in_range ls)
-out_of ls fault twice range (inr is) = ap (λ b. b && has_distinct_items ls) (range.0 (ap Err is)).1
-
 -- an order is made of lines exactly where they are those of one
-pub decided : (u n : ℕ) (given ls : List Line) (r : Result Order Fault) → given ≡ ls → IfOk r (λ o. o.customer ≡ u) → IfOk r (λ o. o.number ≡ n) → IfOk r (λ o. o.lines ≡ given)
-    → (IsErrOf r Repeated ↔ (has_distinct_items given ≡ false)) → (IsErrOf r BadConfig ↔ ((has_distinct_items given ≡ true) × (are_in_range given ≡ false))) → IfErr r (λ fault. (fault ≡ Repeated) ⊎ (fault ≡ BadConfig))
-    → result_ok r ≡ order_of_lines u n ls
-decided u n given ls (Ok o) same is_u is_n is_ls twice range only = sym (made u n ls o is_u is_n (is_ls ∙ same))
-decided u n given ls (Err fault) same is_u is_n is_ls twice range only = sym (unmade u n ls (ap are_lines (sym same) ∙ out_of given fault twice range only))
+pub decided : (u n : ℕ) (ls : List Line) (r : Option Order) → IfSome r (λ o. o.customer ≡ u) → IfSome r (λ o. o.number ≡ n) → IfSome r (λ o. o.lines ≡ ls) → (r ≡ None → are_lines ls ≡ false)
+    → r ≡ order_of_lines u n ls
+decided u n ls (Some o) is_u is_n is_ls none = sym (made u n ls o is_u is_n is_ls)
+decided u n ls None is_u is_n is_ls none = sym (unmade u n ls (none refl))

@@ -95,6 +95,19 @@ impl<Op: Operation> Kept<Op> {
         }
     }
 
+    /// Puts the keys that it reads in place of those that are there.
+    pub fn put_reads(&self, reads: &mut KeySet)
+        ensures { reads.new ≡ self.now.txn.sets.reads }
+    {
+        match &self.declared {
+            Some(declared) => *reads = declared.reads,
+            None => {
+                *reads = KeySet::new();
+                self.args.add_first_reads(reads);
+            }
+        }
+    }
+
     /// The request with its sets.
     pub fn txn(&self) -> Txn<Op>
         ensures { result ≡ self.now.txn }

@@ -80,6 +80,11 @@ impl Operation for KvRequest {
         self.add_first_needs(sets);
     }
 
+    #[inline(always)]
+    fn add_first_reads(&self, reads: &mut KeySet) {
+        self.add_needed_reads(reads);
+    }
+
     fn has_first_key(&self) -> bool {
         match self {
             KvRequest::Put(_, _) | KvRequest::Add(_, _) => true,

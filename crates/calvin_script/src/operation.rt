@@ -30,6 +30,20 @@ pub trait Operation: Copy {
         requires { sets.old ≡ record { reads = []; writes = [] } }
         ensures { sets.new ≡ grammar.first_needs self.now };
 
+    /// Adds the keys that the operation reads where no row is known yet, to a set that has none. An application may do so
+    /// without making the other set.
+    fn add_first_reads(&self, reads: &mut KeySet)
+        requires { reads.old ≡ [] }
+        ensures { reads.new ≡ (grammar.first_needs self.now).reads }
+    {
+        let mut sets = Sets {
+            reads: KeySet::new(),
+            writes: KeySet::new(),
+        };
+        self.add_first_sets(&mut sets);
+        *reads = sets.reads;
+    }
+
     /// Whether the operation reads or writes a key where no row is known yet. An application may tell so without making
     /// the sets.
     fn has_first_key(&self) -> bool

@@ -7,7 +7,7 @@ use crate::fields::{u32_of, u64_of};
 use crate::numbers::{one_number, three_numbers, two_numbers};
 use crate::operation::Operation;
 use calvin_stock::{Line, LineList, MOST_LINES, Order, StockRequest};
-use calvin_types::{RequestId, Sets};
+use calvin_types::{KeySet, RequestId, Sets};
 use serde_json::Value;
 
 /// A line of an order: an item, and how many pieces of it.
@@ -44,7 +44,7 @@ fn lines_of(value: &Value) -> Option<LineList>
 pub fn order_of_lines(customer: u64, number: u64, lines: &LineList) -> Option<Order>
     ensures { result ≡ order_of_lines customer number lines.now }
 {
-    Order::new(customer, number, lines.as_slice()).ok()
+    Order::of(customer, number, lines)
 }
 
 /// The order that the items behind the name of an operation spell.
@@ -109,6 +109,10 @@ impl Operation for StockRequest {
 
     fn add_first_sets(&self, sets: &mut Sets) {
         self.add_first_needs(sets);
+    }
+
+    fn add_first_reads(&self, reads: &mut KeySet) {
+        self.add_needed_reads(reads);
     }
 
     // Each operation has an item or a customer.

@@ -1,10 +1,9 @@
--- The text for a script that is written as usual.
+-- What is answered to a script that is written as usual.
 use Rattle.std.proofs.Common.{◌≡◌, List, Vec, Global, ℕ, Option, Some, None, Result, Ok, Err, IfOk, IsOkUnless, ap, ◌∙◌}
 use Rattle.std.specs.Prelude.{ok_or}
-use Rattle.calvin_script.specs.Documents.{Json}
+use Rattle.calvin_script.specs.Documents.{Json, script_in}
 use Rattle.calvin_types.specs.declared.fault.Fault.{Fault}
 use Rattle.calvin_types.specs.declared.fault.Fault.TheVariants.{OutOfMemory, BadScript}
-use Rattle.calvin_app.specs.Meaning.{Meaning}
 use Rattle.calvin_app.specs.Kv.{kv}
 use Rattle.calvin_app.specs.declared.kv.KvRequest.{KvRequest}
 use Rattle.calvin_stock.specs.Stock.{stock}
@@ -17,7 +16,7 @@ use Rattle.calvin_script.specs.StockOperations.{stock_grammar}
 use Rattle.calvin_script.proofs.Apps.{kv_named, stock_named}
 use Rattle.calvin_text.specs.Texts.{kv_text, stock_text}
 use Rattle.calvin_serial.specs.declared.undeclared.UndeclaredSets.{UndeclaredSets}
-use Rattle.calvin_serial.specs.Engine.{text_of, text_for, text_by, text_in}
+use Rattle.calvin_serial.specs.Engine.{text_for, text_by, text_in}
 
 abbrev pick : {A : Type 0} → A → Result A Fault → A
 pick x (Ok y) = y
@@ -27,17 +26,17 @@ spelled : {Args : Type 0} (o : Option (Contents Args)) (c : Contents Args) → o
 spelled None c e = absurd (cc)
 spelled (Some x) c e = ap (λ r. Some (pick x r)) e
 
-module _ {Args Row Reply : Type 0} (m : Meaning Args Row Reply) (grammar : Grammar Args) (show : Reply → List ℕ) (sets : UndeclaredSets) (named : (d : Json) (c : Contents Args) → script grammar d ≡ Some c → text_in sets d ≡ text_for m grammar show sets d) where
-  text_at : (read : Result Json Fault) (c : Contents Args) → and_then read (λ d. ok_or (script grammar d) BadScript) ≡ Ok c → and_then read (text_in sets) ≡ text_of m show sets c
-  text_at (Err fault) c e = absurd (cc)
-  text_at (Ok d) c e =
+module _ {Args Y : Type 0} (grammar : Grammar Args) (answer_in : Json → Result Y Fault) (answer_of : Contents Args → Result Y Fault) (named : (d : Json) (c : Contents Args) → script grammar d ≡ Some c → answer_in d ≡ and_then (script_in grammar d) answer_of) where
+  answer_at : (read : Result Json Fault) (c : Contents Args) → and_then read (λ d. ok_or (script grammar d) BadScript) ≡ Ok c → and_then read answer_in ≡ answer_of c
+  answer_at (Err fault) c e = absurd (cc)
+  answer_at (Ok d) c e =
       let is = spelled (script grammar d) c e in
-      named d c is ∙ ap (λ o. and_then (ok_or o BadScript) (text_of m show sets)) is
+      named d c is ∙ ap (λ o. and_then (ok_or o BadScript) answer_of) is
 
-  -- the text is that of a script that is read for an application which the script names
-  pub usual_text : (bytes : List ℕ) (c : Contents Args) → script_from grammar bytes ≡ Ok c → and_then (json bytes) (text_in sets) ≡ text_of m show sets c
+  -- what is answered to the bytes of a script that is read for an application which the script names is what is answered to the script
+  pub usual_answer : (bytes : List ℕ) (c : Contents Args) → script_from grammar bytes ≡ Ok c → and_then (json bytes) answer_in ≡ answer_of c
   unfolding script_from
-  usual_text bytes c e = text_at (json bytes) c e
+  usual_answer bytes c e = answer_at (json bytes) c e
 
 pub kv_text_in : (sets : UndeclaredSets) (d : Json) (c : Contents KvRequest) → script kv_grammar d ≡ Some c → text_in sets d ≡ text_for kv kv_grammar kv_text sets d
 kv_text_in sets d c e = ap (λ name. text_by sets d name) (kv_named d c e)

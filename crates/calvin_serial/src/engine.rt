@@ -1,8 +1,9 @@
 //! The engine `serial`: a script in, the text of its serial run out.
-ghost use Rattle.std.specs.Prelude.{◌≡◌, ◌≢◌, ◌+◌, ◌≤◌, ◌<◌, ◌++◌, [], ℕ, suc, length, map, IfOk, IfErr, OnOk, IfSome, Ok, Err, IsErrOf, IsOkUnless};
-ghost use Rattle.std.specs.Io.KnownBytes.{Appends, IsAtEnd};
+ghost use Rattle.std.specs.Prelude.{◌≡◌, ◌≢◌, ◌+◌, ◌<◌, IfOk, IfErr, OnOk, IfSome, Ok, Err, IsErrOf, IsOkUnless};
+ghost use Rattle.std.specs.Result.{result_err};
+ghost use Rattle.std.specs.Io.KnownBytes.{Appends};
 ghost use Rattle.calvin_edge.specs.Answering.{HasText, HasBeginning, Refuses};
-ghost use Rattle.calvin_edge.specs.Devices.{ConsumesSome};
+ghost use Rattle.calvin_edge.specs.Devices.{LeavesAsTold};
 ghost use Rattle.calvin_script.specs.Scripts.{Contents, contents};
 ghost use Rattle.calvin_script.specs.Reading.{and_then, json, script_from, Reads};
 ghost use Rattle.calvin_script.specs.Documents.{data_of};
@@ -26,6 +27,9 @@ use std::mem;
 /// it asks for than it fills.
 const FIRST_ROOM: usize = MOST_BYTES;
 
+/// The rows that there is room for from the start; more of them take room for twice as many each time.
+const FIRST_ROWS: usize = 8_192;
+
 /// The text of the serial run of a script.
 fn text_of<A: Settles + Copy + Drop>(
     alloc: Global,
@@ -41,6 +45,7 @@ where
     ensures only { IsOkUnless result Fault.OutOfMemory }
 {
     let mut store = Serial::new(alloc, app);
+    store.reserve(FIRST_ROWS)?;
     let mut text = Vec::with_capacity(alloc, FIRST_ROOM)?;
     let mut seen = View::new();
     let mut answer = Answer::Changed;
@@ -150,21 +155,8 @@ pub fn serial<S: Source, K: Sink>(
     ensures untouched { IfErr result (λ fault. fault ≢ Fault.WriteFailed → sink.new ≡ sink.old) }
     ensures beginning { IsErrOf result Fault.WriteFailed → IfSome (S.left source.old) (λ bytes.
         HasBeginning (serial_text sets bytes) (K.taken sink.old) (K.taken sink.new)) }
-    // All is read, or the first byte too many and none past it.
-    ensures all_read { OnOk result (IsAtEnd (S.left source.new)) }
-    ensures too_long { IsErrOf result Fault.ScriptTooLong
-        → ConsumesSome (S.left source.old) (S.left source.new) (MOST_BYTES + 1) }
-    ensures no_more { (n : ℕ) × (n ≤ MOST_BYTES + 1)
-        × ConsumesSome (S.left source.old) (S.left source.new) n }
-    // The device failed.
-    ensures read_failed { IsErrOf result Fault.ReadFailed
-        → S.failures source.new ≡ S.failures source.old + 1 }
-    ensures read_well { result ≢ Err Fault.ReadFailed
-        → S.failures source.new ≡ S.failures source.old }
-    ensures write_failed { IsErrOf result Fault.WriteFailed
-        → K.failures sink.new ≡ K.failures sink.old + 1 }
-    ensures wrote_well { result ≢ Err Fault.WriteFailed
-        → K.failures sink.new ≡ K.failures sink.old }
+    // How far it read, and which device failed.
+    ensures devices { LeavesAsTold S.Source K.Sink source.old source.new sink.old sink.new (result_err result) }
 {
     let bytes = read_all(alloc, source)?;
     let text = answer(alloc, bytes, sets)?;

@@ -36,9 +36,36 @@ where
     Ok(())
 }
 
-/// Runs one request of a script where it stands, with its sets in place of those that are there, and adds its line. Sets
-/// that weren't declared are compared with those that it needs only where these may depend on rows.
+/// Runs one request of a script where it stands. The sets that it needs for that come in place of those that are there:
+/// where they weren't declared and don't depend on rows, the keys that it reads alone.
+#[inline(always)]
 #[tactic(auto, unfolding(calvin_app::specs::Serial::answer_on, calvin_app::specs::Serial::writes_on))]
+fn apply_kept<A: App>(
+    store: &mut Serial<A>,
+    kept: &Kept<A::Args>,
+    sets: &mut Sets,
+    seen: &mut View<A::Row>,
+    answer: &mut Answer<A::Reply>,
+    writes: &mut Writes<A::Row>,
+) -> Result<(), Fault>
+where
+    A::Args: Operation,
+    requires first { NeedsFirst A.Args.grammar A.meaning }
+    ensures answer { OnOk result (answer.new ≡ answer_one A.meaning kept.now.txn store.old) }
+    ensures rows { OnOk result (store.new ≡ after_one A.meaning kept.now.txn store.old) }
+    ensures only { IsOkUnless result Fault.OutOfMemory }
+{
+    if kept.is_declared() || store.is_dependent(kept.args()) {
+        kept.put_sets(sets);
+        store.apply_parts(kept.args(), sets, seen, answer, writes)?;
+        return Ok(());
+    }
+    kept.put_reads(&mut sets.reads);
+    store.apply_first(kept.args(), &sets.reads, seen, answer, writes)?;
+    Ok(())
+}
+
+/// Runs one request of a script where it stands, and adds its line.
 fn push_kept<A: App>(
     store: &mut Serial<A>,
     place: Place,
@@ -57,12 +84,7 @@ where
     ensures rows { OnOk result (store.new ≡ after_one A.meaning kept.now.txn store.old) }
     ensures only { IsOkUnless result Fault.OutOfMemory }
 {
-    kept.put_sets(sets);
-    if kept.is_declared() {
-        store.apply_parts(kept.args(), sets, seen, answer, writes)?;
-    } else {
-        store.apply_first(kept.args(), sets, seen, answer, writes)?;
-    }
+    apply_kept(store, kept, sets, seen, answer, writes)?;
     push_line(text, place, kept.id(), answer)?;
     Ok(())
 }

@@ -3,3 +3,4 @@ pub mod Opened
 pub mod Submitted
 pub mod Rooms
 pub mod Taken
+pub mod Runs

@@ -18,7 +18,7 @@ use Rattle.calvin_bench.proofs.Lists.{set_here, set_other, get_map}
 use Rattle.calvin_order.proofs.Histories.{undecided_more, unused_parts}
 use Rattle.calvin_order.proofs.HoldingBack.{length-parts}
 use Rattle.calvin_order.proofs.NextEpochs.{next_unused}
-use Rattle.calvin_node.specs.declared.packet.Packet.{Packet}
+use Rattle.calvin_packets.specs.declared.packet.Packet.{Packet}
 use Rattle.calvin_order.specs.Sequencing.{Sequencing, HeldBack, ripe, load, is_decided, closing, ticked, ripened, next_epoch, first_not, is_used}
 use Rattle.calvin_order.specs.Configs.{Config}
 use Rattle.calvin_node.specs.NodeStates.{NodeState, with_sequencer, new_node}

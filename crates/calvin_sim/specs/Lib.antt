@@ -1,3 +1,4 @@
 pub mod Simulations
 pub mod Sequencers
 pub mod Telling
+pub mod Engine

@@ -21,6 +21,14 @@ const STREAM: u64 = 54;
 /// Half of the packets that are delivered are drawn from the last so many.
 const RECENT: u32 = 64;
 
+/// How far a node has come: the least place whose request has its locks and isn't done, and the last epoch at whose end it
+/// stands; the first ones, where there are none.
+#[derive(Clone, Copy)]
+struct Front {
+    place: Place,
+    epoch: u64,
+}
+
 /// From what events are drawn: a generator, the nodes that there are, how many epochs were closed, and whether nodes
 /// restart.
 #[derive(Drop)]
@@ -82,20 +90,21 @@ impl Drawing {
         }
     }
 
-    /// An act of a node whose least ready place is this one.
-    fn draw_act<Args>(&mut self, id: NodeId, place: Place) -> Act<Args>
+    /// An act of a node that has come so far.
+    fn draw_act<Args>(&mut self, id: NodeId, front: Front) -> Act<Args>
         ensures { (at : NodeId) → is_quiet (At at result) ≡ true }
     {
         if self.draw_restart(id) {
             return Act::Restart;
         }
-        match self.draw(10) {
+        match self.draw(11) {
             0 | 1 => Act::Propose(self.draw_epoch()),
             2 => Act::Merge,
             3 | 4 => Act::Lock,
-            5 | 6 => Act::Begin(place),
-            7 => Act::Finish(place),
-            8 => Act::AskForReads(place, self.draw_byte(self.config.replicas)),
+            5 | 6 => Act::Begin(front.place),
+            7 => Act::Finish(front.place),
+            8 => Act::Snapshot(front.epoch),
+            9 => Act::AskForReads(front.place, self.draw_byte(self.config.replicas)),
             _ => Act::AskForBatch(self.draw_slot(), self.draw_node()),
         }
     }
@@ -111,12 +120,22 @@ impl Drawing {
             return Event::Deliver(self.draw_packet(sent(world)));
         }
         let id = self.draw_node();
-        let first = Place { epoch: 0, n: 0 };
-        let place = match world.node(id) {
-            Some(node) => node.first_ready(None).unwrap_or(first),
-            None => first,
-        };
-        Event::At(id, self.draw_act(id, place))
+        Event::At(id, self.draw_act(id, front_of(world, id)))
+    }
+}
+
+/// How far a node has come.
+fn front_of<A: App + Drop>(world: &World<A, QueueLocks, PlainRows<A::Row>>, id: NodeId) -> Front {
+    let first = Place { epoch: 0, n: 0 };
+    match world.node(id) {
+        Some(node) => Front {
+            place: node.first_ready(None).unwrap_or(first),
+            epoch: node.stands_at().unwrap_or(0),
+        },
+        None => Front {
+            place: first,
+            epoch: 0,
+        },
     }
 }
 

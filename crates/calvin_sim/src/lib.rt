@@ -4,6 +4,7 @@
 
 mod asking;
 mod drawing;
+mod engine;
 mod fitting;
 mod schedule;
 mod simulation;
@@ -12,6 +13,7 @@ mod submitting;
 mod telling;
 mod working;
 
+pub use engine::{Simulated, sim};
 pub use fitting::{fits, read_is_taken};
 pub use schedule::{MOST_STEPS, Restarts, Schedule};
 pub use simulation::simulate;

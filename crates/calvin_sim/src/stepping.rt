@@ -4,7 +4,7 @@ ghost use Rattle.calvin_sim.specs.Simulations.{is_quiet, LeadsQuietly};
 
 use calvin_app::App;
 use calvin_lock::QueueLocks;
-use calvin_node::Address;
+use calvin_packets::Address;
 use calvin_store::PlainRows;
 use calvin_types::{Fault, NodeId};
 use calvin_world::{Event, Outcome, World};

@@ -90,7 +90,7 @@ impl Crew {
         Ok(())
     }
 
-    /// Each node that is to work does, replica by replica.
+    /// Each node that is to work does, replica by replica; one that merged an epoch is to work again.
     #[tactic(auto, using(crate::proofs::Leading::quiet_here, crate::proofs::Leading::quiet_then))]
     fn work<A: App + Drop>(
         &mut self,
@@ -101,8 +101,7 @@ impl Crew {
     {
         for seat in &mut self.seats {
             if seat.is_woken {
-                seat.is_woken = false;
-                work_at(world, seat.id)?;
+                seat.is_woken = work_at(world, seat.id)?;
             }
         }
         Ok(())
@@ -121,8 +120,18 @@ impl Crew {
         self.work(world)
     }
 
-    /// Packets are delivered and nodes work until nothing more is sent. Each turn but the last delivers a packet, and of
-    /// those there are fewer than 2^64.
+    /// Whether nothing is left to do: no packet that wasn't delivered here, and no node that is to work.
+    fn is_idle<A: App + Drop>(&self, world: &World<A, QueueLocks, PlainRows<A::Row>>) -> bool {
+        for seat in &self.seats {
+            if seat.is_woken {
+                return false;
+            }
+        }
+        self.delivered >= sent(world)
+    }
+
+    /// Packets are delivered and nodes work until nothing is left to do. Each turn but the last delivers a packet or merges an
+    /// epoch, and of both there are fewer than 2^63.
     #[tactic(auto, using(crate::proofs::Leading::quiet_here, crate::proofs::Leading::quiet_then))]
     pub fn work_on<A: App + Drop>(
         &mut self,
@@ -133,7 +142,7 @@ impl Crew {
     {
         for _ in 0..u64::MAX {
             self.turn(world)?;
-            if self.delivered >= sent(world) {
+            if self.is_idle(world) {
                 break;
             }
         }
@@ -150,30 +159,34 @@ fn id_at(config: &Config, at: usize) -> NodeId {
     }
 }
 
-/// A node merges what is decided, and lets all that is merged ask for its locks.
+/// A node merges the next epoch, if it is decided, and lets all that is merged ask for its locks. Says whether an epoch was
+/// merged.
 #[tactic(auto, using(crate::proofs::Leading::quiet_here, crate::proofs::Leading::quiet_then))]
 fn admit<A: App + Drop>(
     world: &mut World<A, QueueLocks, PlainRows<A::Row>>,
     id: NodeId,
-) -> Result<(), Fault>
+) -> Result<bool, Fault>
     ensures quiet { LeadsQuietly A.meaning world.old world.new }
     ensures only { IsOkUnless result Fault.OutOfMemory }
 {
-    repeat(world, &Event::At(id, Act::Merge))?;
-    repeat(world, &Event::At(id, Act::Lock))
+    let merged = happen(world, &Event::At(id, Act::Merge))?;
+    repeat(world, &Event::At(id, Act::Lock))?;
+    Ok(merged == Outcome::Done)
 }
 
-/// A node merges and admits what it can; then what is ready runs.
+/// A node merges and admits what it can of the next epoch; then what is ready runs. Says whether an epoch was merged: there may
+/// be another one.
 #[tactic(auto, using(crate::proofs::Leading::quiet_here, crate::proofs::Leading::quiet_then))]
 fn work_at<A: App + Drop>(
     world: &mut World<A, QueueLocks, PlainRows<A::Row>>,
     id: NodeId,
-) -> Result<(), Fault>
+) -> Result<bool, Fault>
     ensures quiet { LeadsQuietly A.meaning world.old world.new }
     ensures only { IsOkUnless result Fault.OutOfMemory }
 {
-    admit(world, id)?;
-    run_ready(world, id)
+    let merged = admit(world, id)?;
+    run_ready(world, id)?;
+    Ok(merged)
 }
 
 /// An event happens again and again until it is refused, as it is once all that was decided is merged, or all that was
@@ -237,21 +250,7 @@ fn awaits(outcome: Outcome) -> bool {
     matches!(outcome, Outcome::Refused(Fault::ReadsMissing))
 }
 
-/// The request at a place begins, and is finished if it can be.
-#[tactic(auto, using(crate::proofs::Leading::quiet_here, crate::proofs::Leading::quiet_then))]
-fn begin<A: App + Drop>(
-    world: &mut World<A, QueueLocks, PlainRows<A::Row>>,
-    id: NodeId,
-    place: Place,
-) -> Result<Outcome, Fault>
-    ensures quiet { LeadsQuietly A.meaning world.old world.new }
-    ensures only { IsOkUnless result Fault.OutOfMemory }
-{
-    let _begun = happen(world, &Event::At(id, Act::Begin(place)))?;
-    happen(world, &Event::At(id, Act::Finish(place)))
-}
-
-/// The request at a place is finished; where it hasn't begun, it begins first.
+/// The request at a place begins, if it has not begun, and is finished if it can be.
 #[tactic(auto, using(crate::proofs::Leading::quiet_here, crate::proofs::Leading::quiet_then))]
 fn run<A: App + Drop>(
     world: &mut World<A, QueueLocks, PlainRows<A::Row>>,
@@ -261,8 +260,6 @@ fn run<A: App + Drop>(
     ensures quiet { LeadsQuietly A.meaning world.old world.new }
     ensures only { IsOkUnless result Fault.OutOfMemory }
 {
-    match happen(world, &Event::At(id, Act::Finish(place)))? {
-        Outcome::Refused(Fault::NotReady) => begin(world, id, place),
-        outcome => Ok(outcome),
-    }
+    let _begun = happen(world, &Event::At(id, Act::Begin(place)))?;
+    happen(world, &Event::At(id, Act::Finish(place)))
 }

@@ -1,5 +1,5 @@
 //! An order with its lines.
-ghost use Rattle.std.specs.Prelude.{◌≡◌, ◌≤◌, ◌↔◌, ◌⊎◌, true, false, length, IsTrue, IfOk, IfErr, IsErrOf};
+ghost use Rattle.std.specs.Prelude.{◌≡◌, ◌≤◌, ◌↔◌, ◌⊎◌, true, false, length, None, IsTrue, IfSome, IfOk, IfErr, IsErrOf};
 ghost use Rattle.std.specs.List.{list_all};
 ghost use Rattle.calvin_stock.specs.Lines.{names_item, has_distinct_items, is_in_range, are_in_range, are_lines};
 
@@ -46,6 +46,23 @@ impl Order {
             customer,
             number,
             lines: lines_of(lines),
+        })
+    }
+
+    /// The order of these lines, where they are the lines of one; `new` says what is wrong with others.
+    pub fn of(customer: u64, number: u64, lines: &LineList) -> Option<Order>
+        ensures customer { IfSome result (λ o. o.customer ≡ customer) }
+        ensures number { IfSome result (λ o. o.number ≡ number) }
+        ensures lines { IfSome result (λ o. o.lines ≡ lines.now) }
+        ensures none { result ≡ None ↔ (are_lines lines.now ≡ false) }
+    {
+        if !are_in_range(lines.as_slice()) || !has_distinct_items(lines.as_slice()) {
+            return None;
+        }
+        Some(Order {
+            customer,
+            number,
+            lines: *lines,
         })
     }
 }

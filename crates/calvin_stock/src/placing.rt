@@ -1,8 +1,11 @@
 //! How an order is placed: all of its lines, or none.
-ghost use Rattle.std.specs.Prelude.{◌≡◌, ◌^◌, ◌<◌, [], None, Some, map, IfOk, IfErr, IsTrue};
-ghost use Rattle.calvin_stock.specs.StockRows.{customer_at};
+ghost use Rattle.std.specs.Prelude.{◌≡◌, ◌^◌, ◌<◌, [], ◌∷◌, ◌++◌, None, Some, map, false, IfOk, IfErr, OnOk, IsTrue};
+ghost use Rattle.calvin_app.specs.Rows.{Rows};
+ghost use Rattle.calvin_stock.specs.declared.rows.StockRow.{StockRow};
+ghost use Rattle.calvin_stock.specs.declared.rows.StockRow.TheVariants as row;
+ghost use Rattle.calvin_stock.specs.StockRows.{customer_at, customer_key, order_key};
 ghost use Rattle.calvin_stock.specs.Lines.{has_distinct_items};
-ghost use Rattle.calvin_stock.specs.Operations.{line_fault, first_fault, cost, total_of, left, taken, placed, place};
+ghost use Rattle.calvin_stock.specs.Operations.{line_fault, first_fault, cost, total_of, left, taken, place};
 
 use crate::keys::{customer_in, customer_key, item_in, item_key, order_key};
 use crate::limits::MOST_CENTS;
@@ -39,50 +42,39 @@ fn left(line: &Line, found: Option<Item>) -> Item
     }
 }
 
-/// The cents of lines together, at most four of less than 2^96 each, so nothing is lost; or why the first of the lines
-/// that can't be delivered can't.
-fn total_of(lines: &LineList, view: &View<StockRow>) -> Result<u128, StockReply>
+/// Adds the items as the lines leave them to writes that have none yet, and answers the cents of the lines together, at
+/// most four of less than 2^96 each, so nothing is lost; or why the first of the lines that can't be delivered can't, and
+/// then any writes may be left.
+fn take_lines(
+    lines: &LineList,
+    view: &View<StockRow>,
+    writes: &mut Writes<StockRow>,
+) -> Result<u128, StockReply>
+    requires distinct { IsTrue (has_distinct_items lines.now) }
+    requires none { writes.old ≡ [] }
     ensures total { IfOk result (λ total. (first_fault lines.now view.now ≡ None) × (total ≡ total_of lines.now view.now)) }
+    ensures taken { OnOk result (writes.new ≡ map (taken view.now) lines.now) }
     ensures fault { IfErr result (λ fault. first_fault lines.now view.now ≡ Some fault) }
 {
     let mut total: u128 = 0;
     for i in 0..lines.len() {
         let line = lines.at(i);
-        let cents = cost(&line, item_in(view, line.item))?;
+        let found = item_in(view, line.item);
+        let cents = cost(&line, found)?;
         total += cents;
+        let row = left(&line, found);
+        writes.push(item_key(line.item), StockRow::Item(row));
     }
     Ok(total)
 }
 
-/// Adds the items as the lines leave them to writes that have none yet.
-fn add_taken(lines: &LineList, view: &View<StockRow>, writes: &mut Writes<StockRow>)
-    requires distinct { IsTrue (has_distinct_items lines.now) }
-    requires none { writes.old ≡ [] }
-    ensures { writes.new ≡ map (taken view.now) lines.now }
+/// Adds an order that costs so many cents, and its customer, to the writes of its items.
+fn add_placed(order: &Order, customer: Customer, total: u64, writes: &mut Writes<StockRow>)
+    requires { (rows : Rows StockRow) × (writes.old ≡ map (taken rows) order.now.lines) }
+    ensures { writes.new ≡ writes.old
+        ++ (order_key order.now.number, row.Order (record { customer = order.now.customer; total = total; settled = false }))
+        ∷ (customer_key order.now.customer, row.Customer (record { balance = customer.balance; last_order = Some order.now.number })) ∷ [] }
 {
-    for i in 0..lines.len() {
-        let line = lines.at(i);
-        let row = left(&line, item_in(view, line.item));
-        writes.push(item_key(line.item), StockRow::Item(row));
-    }
-}
-
-/// Places an order of a customer where all of its lines can be delivered, for so many cents together.
-fn placed(
-    order: &Order,
-    view: &View<StockRow>,
-    customer: Customer,
-    total: u128,
-    writes: &mut Writes<StockRow>,
-) -> StockReply
-    requires { writes.old ≡ [] }
-    ensures { (result, writes.new) ≡ placed order.now view.now customer total }
-{
-    if total > MOST_CENTS as u128 {
-        return StockReply::Limit;
-    }
-    let total = total as u64;
-    add_taken(&order.lines, view, writes);
     let row = StockRow::Order(Placed {
         customer: order.customer,
         total,
@@ -94,7 +86,6 @@ fn placed(
         last_order: Some(order.number),
     });
     writes.push(customer_key(order.customer), row);
-    StockReply::Ordered(total)
 }
 
 /// Places an order, if its customer is there and the order isn't.
@@ -112,8 +103,18 @@ pub(crate) fn place(
     if view.get(&order_key(order.number)).is_some() {
         return StockReply::OrderExists;
     }
-    match total_of(&order.lines, view) {
-        Ok(total) => placed(order, view, customer, total, writes),
-        Err(fault) => fault,
+    let total = match take_lines(&order.lines, view, writes) {
+        Ok(total) => total,
+        Err(fault) => {
+            writes.clear();
+            return fault;
+        }
+    };
+    if total > MOST_CENTS as u128 {
+        writes.clear();
+        return StockReply::Limit;
     }
+    let total = total as u64;
+    add_placed(order, customer, total, writes);
+    StockReply::Ordered(total)
 }

@@ -13,7 +13,7 @@ use crate::keys::{
 use crate::order::Order;
 use crate::rows::StockRow;
 use calvin_app::View;
-use calvin_types::Sets;
+use calvin_types::{KeySet, Sets};
 
 /// What is asked of a stock. Customers, items and orders are named by numbers, amounts of money are cents. Each looks at
 /// its refusals in the order in which they stand here, and where one is answered nothing is written.
@@ -78,6 +78,22 @@ impl StockRequest {
                 sets.writes = sets.reads;
             }
             StockRequest::Balance { customer } => sets.reads.grow(customer_key(*customer)),
+        }
+    }
+
+    /// Adds the keys that the request reads where no row is known to a set that has none yet, as `add_first_needs` does.
+    pub fn add_needed_reads(&self, reads: &mut KeySet)
+        requires { reads.old ≡ [] }
+        ensures { reads.new ≡ (stock.needs self.now finmap.empty).reads }
+    {
+        match self {
+            StockRequest::AddItem { item, .. } => reads.grow(item_key(*item)),
+            StockRequest::Restock { item, .. } => reads.grow(item_key(*item)),
+            StockRequest::Open { customer } => reads.grow(customer_key(*customer)),
+            StockRequest::PayIn { customer, .. } => reads.grow(customer_key(*customer)),
+            StockRequest::Order(order) => add_order_keys(order, reads),
+            StockRequest::Settle { customer } => add_settle_keys(*customer, None, reads),
+            StockRequest::Balance { customer } => reads.grow(customer_key(*customer)),
         }
     }
 

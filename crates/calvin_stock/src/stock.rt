@@ -21,6 +21,7 @@ use calvin_types::{KeySet, Sets};
 pub struct Stock;
 
 /// Replies to a request, and adds what it writes.
+#[inline(always)]
 fn reply_to(args: &StockRequest, view: &View<StockRow>, writes: &mut Writes<StockRow>) -> StockReply
     requires { writes.old ≡ [] }
     ensures { (result, writes.new) ≡ stock.outcome args.now view.now }

@@ -10,9 +10,9 @@ use std::alloc::{AllocError, Global};
 use std::cmp::Ordering;
 use std::marker::Model;
 
-/// Rows in one list.
+/// Rows in one list. A row is found, and put in, in time by the number of rows.
 #[derive(Drop)]
-pub(crate) struct ListRows<Row> {
+pub struct ListRows<Row> {
     alloc: Global,
     pairs: Vec<(Key, Row)>,
     room: usize,

@@ -30,9 +30,77 @@ fn digit(n: u32) -> u8
     b'0' + n as u8
 }
 
+/// Adds a number of one digit, for which there is room.
+#[inline(always)]
+#[tactic(auto, using(crate::proofs::ShortNumbers::one_digit))]
+fn put_one(text: &mut Vec<u8>, n: u32)
+    requires short { n < 10 }
+    requires room { vec_len text.old + 1 ≤ vec_capacity text.old }
+    ensures number { text.new.items ≡ text.old.items ++ decimal n }
+    ensures len { vec_len text.new ≡ vec_len text.old + 1 }
+    ensures room { vec_capacity text.new ≡ vec_capacity text.old }
+{
+    text.push_reserved(digit(n));
+}
+
+/// Adds a number of two digits, for which there is room.
+#[inline(always)]
+#[tactic(auto, using(crate::proofs::ShortNumbers::one_more))]
+fn put_two(text: &mut Vec<u8>, n: u32)
+    requires short { (10 ≤ n) × (n < 100) }
+    requires room { vec_len text.old + 2 ≤ vec_capacity text.old }
+    ensures number { text.new.items ≡ text.old.items ++ decimal n }
+    ensures len { vec_len text.new ≡ vec_len text.old + 2 }
+    ensures room { vec_capacity text.new ≡ vec_capacity text.old }
+{
+    put_one(text, n / 10);
+    text.push_reserved(digit(n % 10));
+}
+
+/// Adds a number of three digits, for which there is room.
+#[inline(always)]
+#[tactic(auto, using(crate::proofs::ShortNumbers::one_more))]
+fn put_three(text: &mut Vec<u8>, n: u32)
+    requires short { (100 ≤ n) × (n < 1000) }
+    requires room { vec_len text.old + 3 ≤ vec_capacity text.old }
+    ensures number { text.new.items ≡ text.old.items ++ decimal n }
+    ensures len { vec_len text.new ≡ vec_len text.old + 3 }
+    ensures room { vec_capacity text.new ≡ vec_capacity text.old }
+{
+    put_two(text, n / 10);
+    text.push_reserved(digit(n % 10));
+}
+
+/// Adds a number of four digits, for which there is room.
+#[inline(always)]
+#[tactic(auto, using(crate::proofs::ShortNumbers::one_more))]
+fn put_four(text: &mut Vec<u8>, n: u32)
+    requires short { (1000 ≤ n) × (n < 10000) }
+    requires room { vec_len text.old + 4 ≤ vec_capacity text.old }
+    ensures number { text.new.items ≡ text.old.items ++ decimal n }
+    ensures len { vec_len text.new ≡ vec_len text.old + 4 }
+    ensures room { vec_capacity text.new ≡ vec_capacity text.old }
+{
+    put_three(text, n / 10);
+    text.push_reserved(digit(n % 10));
+}
+
+/// Adds a number of five digits, for which there is room.
+#[inline(always)]
+#[tactic(auto, using(crate::proofs::ShortNumbers::one_more))]
+fn put_five(text: &mut Vec<u8>, n: u32)
+    requires short { (10000 ≤ n) × (n < 100000) }
+    requires room { vec_len text.old + 5 ≤ vec_capacity text.old }
+    ensures number { text.new.items ≡ text.old.items ++ decimal n }
+    ensures len { vec_len text.new ≡ vec_len text.old + 5 }
+    ensures room { vec_capacity text.new ≡ vec_capacity text.old }
+{
+    put_four(text, n / 10);
+    text.push_reserved(digit(n % 10));
+}
+
 /// Adds a number of at most five digits, for which there is room.
 #[inline(always)]
-#[tactic(auto, using(crate::proofs::ShortNumbers::one_digit, crate::proofs::ShortNumbers::two_digits, crate::proofs::ShortNumbers::three_digits, crate::proofs::ShortNumbers::four_digits, crate::proofs::ShortNumbers::five_digits))]
 pub(crate) fn put_short(text: &mut Vec<u8>, n: u32)
     requires short { n < SHORT }
     requires room { vec_len text.old + 5 ≤ vec_capacity text.old }
@@ -41,32 +109,16 @@ pub(crate) fn put_short(text: &mut Vec<u8>, n: u32)
     ensures room { vec_capacity text.new ≡ vec_capacity text.old }
 {
     if n < 10 {
-        text.push_reserved(digit(n));
-        return;
+        put_one(text, n);
+    } else if n < 100 {
+        put_two(text, n);
+    } else if n < 1000 {
+        put_three(text, n);
+    } else if n < 10_000 {
+        put_four(text, n);
+    } else {
+        put_five(text, n);
     }
-    if n < 100 {
-        text.push_reserved(digit(n / 10));
-        text.push_reserved(digit(n % 10));
-        return;
-    }
-    if n < 1000 {
-        text.push_reserved(digit(n / 100));
-        text.push_reserved(digit(n / 10 % 10));
-        text.push_reserved(digit(n % 10));
-        return;
-    }
-    if n < 10_000 {
-        text.push_reserved(digit(n / 1000));
-        text.push_reserved(digit(n / 100 % 10));
-        text.push_reserved(digit(n / 10 % 10));
-        text.push_reserved(digit(n % 10));
-        return;
-    }
-    text.push_reserved(digit(n / 10_000));
-    text.push_reserved(digit(n / 1000 % 10));
-    text.push_reserved(digit(n / 100 % 10));
-    text.push_reserved(digit(n / 10 % 10));
-    text.push_reserved(digit(n % 10));
 }
 
 /// Adds a number in decimal. Most have few digits, and these are put there without a text of their own.

@@ -5,7 +5,7 @@ use Rattle.std.specs.Prelude.{◌≡◌, ◌≤◌, ℕ, List, length, Option, S
 use Rattle.json.specs.Token.{Token}
 use Rattle.json.specs.Json as json
 use Rattle.serde_json.specs.Data.{Data, Items, Members}
-use Rattle.serde_json.specs.Read.{of_json, of_members, converted}
+use Rattle.serde_json.specs.Read.{of_members, converted}
 use Rattle.calvin_script.specs.Spelling.{each}
 use Rattle.calvin_tokens.specs.Spelled.{ReadsItems}
 

@@ -6,7 +6,7 @@ ghost use Rattle.calvin_tokens.specs.Spelled.{Spells};
 use crate::list::{Piece, list_of};
 use crate::object::{Object, read_object};
 use crate::operation::OperationTokens;
-use crate::tokens::{is_same, u8_of};
+use crate::tokens::{is_same, u8_value};
 use calvin_script::{Epoch, GroupBatch, Kept};
 use json::Reader;
 use std::alloc::Global;
@@ -27,7 +27,7 @@ impl<Op: OperationTokens> Object for BatchMembers<Kept<Op>> {
 
     fn read_member(&mut self, alloc: Global, reader: &mut Reader<'_>, name: &str) -> Option<()> {
         if is_same(name, "group") {
-            self.group = Some(u8_of(reader)?);
+            self.group = Some(u8_value(reader)?);
             return Some(());
         }
         if is_same(name, "txns") {
@@ -66,8 +66,8 @@ impl<Op: OperationTokens> Piece for GroupBatch<Kept<Op>> {
 
     ghost deep = { 124 };
 
-    fn first_room() -> usize {
-        1
+    fn room_behind(len: usize) -> usize {
+        len.max(1)
     }
 
     fn push_tokens(
@@ -96,8 +96,8 @@ impl<Op: OperationTokens> Piece for Epoch<Kept<Op>> {
 
     ghost deep = { 125 };
 
-    fn first_room() -> usize {
-        1
+    fn room_behind(len: usize) -> usize {
+        len.max(1)
     }
 
     fn push_tokens(

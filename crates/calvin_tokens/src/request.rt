@@ -9,7 +9,7 @@ use crate::keys::read_key_set;
 use crate::list::Piece;
 use crate::object::{Object, read_object};
 use crate::operation::OperationTokens;
-use crate::tokens::{is_same, u8_of, u32_of};
+use crate::tokens::{is_same, u8_value, u32_value};
 use calvin_script::{Kept, WholeKey};
 use calvin_types::{KeySet, MOST_REQUESTS, RequestId, Sets};
 use json::Reader;
@@ -140,12 +140,12 @@ impl<Op: OperationTokens> Object for RequestMembers<Op> {
 
     fn read_member(&mut self, alloc: Global, reader: &mut Reader<'_>, name: &str) -> Option<()> {
         if is_same(name, "client") {
-            self.id.client = u32_of(reader)?;
+            self.id.client = u32_value(reader)?;
             self.seen.client = true;
             return Some(());
         }
         if is_same(name, "number") {
-            self.id.number = u32_of(reader)?;
+            self.id.number = u32_value(reader)?;
             self.seen.number = true;
             return Some(());
         }
@@ -175,7 +175,7 @@ impl<Op: OperationTokens> Object for RequestMembers<Op> {
             return Some(());
         }
         if is_same(name, "attempt") {
-            self.attempt = u8_of(reader)?;
+            self.attempt = u8_value(reader)?;
             return Some(());
         }
         None
@@ -194,8 +194,9 @@ impl<Op: OperationTokens> Piece for Kept<Op> {
 
     ghost deep = { 122 };
 
-    fn first_room() -> usize {
-        MOST_REQUESTS
+    // A short batch takes the room of its requests, a longer one at once that of the longest.
+    fn room_behind(len: usize) -> usize {
+        if len < 2 { 1 } else { MOST_REQUESTS }
     }
 
     fn push_tokens(

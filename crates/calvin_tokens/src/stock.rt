@@ -1,5 +1,6 @@
 //! The operations of the application Stock.
-ghost use Rattle.std.specs.Prelude.{◌≡◌, IfSome};
+ghost use Rattle.std.specs.Prelude.{◌≡◌, [], OnSome, IfSome};
+ghost use Rattle.calvin_stock.specs.declared.order.Order.{Order};
 ghost use Rattle.calvin_stock.specs.declared.request.StockRequest.TheVariants.{AddItem, Restock, Open, PayIn, Order as Ordering, Settle, Balance};
 ghost use Rattle.calvin_script.specs.StockOperations.{line, lines, order};
 ghost use Rattle.calvin_tokens.specs.Spelled.{Spells, SpellsBehind};
@@ -24,12 +25,12 @@ fn line_at(reader: &mut Reader<'_>) -> Option<Line>
     Some(Line { item, pieces })
 }
 
-/// The lines that the next tokens list, at most four.
-fn lines_at(reader: &mut Reader<'_>) -> Option<LineList>
-    ensures { IfSome result (λ ls. Spells lines 2 reader.old ls reader.new) }
+/// Adds the lines that the next tokens list, at most four, to a list that has none.
+fn read_lines(reader: &mut Reader<'_>, found: &mut LineList) -> Option<()>
+    requires { found.old ≡ [] }
+    ensures { OnSome result (Spells lines 2 reader.old found.new reader.new) }
 {
     opens_array(reader)?;
-    let mut found = LineList::new();
     'lines: while !ends_array(reader) {
         if found.len() == MOST_LINES {
             return None;
@@ -37,22 +38,7 @@ fn lines_at(reader: &mut Reader<'_>) -> Option<LineList>
         let line = line_at(reader)?;
         found.push(line);
     }
-    Some(found)
-}
-
-/// The order that the items behind the name of an operation spell. It stands apart, so that what reads other operations
-/// stays small enough to be put in its caller.
-#[inline(never)]
-#[tactic(auto, using(crate::proofs::OrderTurns::order_spelled))]
-fn order_at(reader: &mut Reader<'_>) -> Option<Order>
-    ensures { IfSome result (λ o. SpellsBehind order 2 reader.old o reader.new) }
-{
-    let customer = u64_of(reader)?;
-    let number = u64_of(reader)?;
-    let lines = lines_at(reader)?;
-    closes_array(reader)?;
-    let order = order_of_lines(customer, number, &lines)?;
-    Some(order)
+    Some(())
 }
 
 // Each operation is made in a function of its own: one function for all would clear room for all of them for each.
@@ -110,14 +96,29 @@ fn balance_of(customer: u64) -> StockRequest
     StockRequest::Balance { customer }
 }
 
+/// Becomes the order that the items behind the name of an operation spell. It stands apart, so that what reads other
+/// operations stays small enough to be put in its caller, and makes no room for an order.
+#[inline(never)]
+fn read_order(op: &mut StockRequest, reader: &mut Reader<'_>) -> Option<()>
+    ensures { OnSome result ((o : Order) × (op.new ≡ Ordering o) × SpellsBehind order 2 reader.old o reader.new) }
+{
+    let customer = u64_of(reader)?;
+    let number = u64_of(reader)?;
+    let mut lines = LineList::new();
+    read_lines(reader, &mut lines)?;
+    closes_array(reader)?;
+    let order = order_of_lines(customer, number, &lines)?;
+    *op = placing_of(order);
+    Some(())
+}
+
 impl OperationTokens for StockRequest {
     // The names are tried as often as they may be expected.
     fn read_tokens(&mut self, reader: &mut Reader<'_>) -> Option<()> {
         opens_array(reader)?;
         let name = string_at(reader)?;
         if is_same(name, "order") {
-            let order = order_at(reader)?;
-            *self = placing_of(order);
+            read_order(self, reader)?;
         } else if is_same(name, "payin") {
             let (customer, cents) = two_numbers(reader)?;
             *self = payment_of(customer, cents);

@@ -23,14 +23,21 @@ fn next_digit(n: u64, byte: u8) -> Option<u64>
     Some(n * 10 + (byte - b'0') as u64)
 }
 
-/// The number that at most 19 digits write.
+/// The number that at most 19 digits write. Most have one or two, and pass no loop.
 #[inline(always)]
 fn short_digits(bytes: &[u8]) -> Option<u64>
     requires { length bytes.now ≤ 19 }
     ensures { IfSome result (λ n. AllDigits 10 bytes.now × (n ≡ digits_value 10 bytes.now)) }
 {
-    let mut n = 0;
-    let mut i = 0;
+    if bytes.is_empty() {
+        return Some(0);
+    }
+    let mut n = next_digit(0, bytes[0])?;
+    if bytes.len() == 1 {
+        return Some(n);
+    }
+    n = next_digit(n, bytes[1])?;
+    let mut i = 2;
     while i + 1 < bytes.len() {
         n = next_digit(n, bytes[i])?;
         n = next_digit(n, bytes[i + 1])?;
@@ -42,23 +49,32 @@ fn short_digits(bytes: &[u8]) -> Option<u64>
     Some(n)
 }
 
+/// The number that a text of any length writes in digits alone, below 2^64. It stands apart, as few are so long, so that
+/// what reads the others stays small.
+#[cold]
+#[inline(never)]
+#[tactic(auto, unfolding(serde_json::specs::Read::number_of))]
+fn long_digits(text: &str) -> Option<u64>
+    ensures { IfSome result (λ n. number_of text.now ≡ Some (unsigned n)) }
+{
+    let bytes = text.as_bytes();
+    if bytes.is_empty() || bytes[0] == b'-' {
+        return None;
+    }
+    Numeral::scan(bytes).to_u64()
+}
+
 /// The number that a text writes in digits alone, below 2^64.
 #[inline(always)]
-#[tactic(auto, unfolding(serde_json::specs::Read::number_of), using(crate::proofs::Digits::short_number))]
+#[tactic(auto, using(crate::proofs::Digits::short_number))]
 fn digits_of(text: &str) -> Option<u64>
     ensures { IfSome result (λ n. number_of text.now ≡ Some (unsigned n)) }
 {
     let bytes = text.as_bytes();
-    if bytes.is_empty() {
-        return None;
+    if bytes.is_empty() || bytes.len() >= 20 {
+        return long_digits(text);
     }
-    if bytes.len() < 20 {
-        return short_digits(bytes);
-    }
-    if bytes[0] == b'-' {
-        return None;
-    }
-    Numeral::scan(bytes).to_u64()
+    short_digits(bytes)
 }
 
 /// A whole number below 2^64, written in digits alone, where it is next.
@@ -102,6 +118,35 @@ pub(crate) fn u8_of(reader: &mut Reader<'_>) -> Option<u8>
 {
     let n = number(reader)?;
     u8::try_from(n).ok()
+}
+
+/// The same as `number`, for the value of a member. It stands apart, so that what reads members stays small enough to be
+/// put in its callers.
+#[inline(never)]
+fn number_value(reader: &mut Reader<'_>) -> Option<u64>
+    ensures { IfSome result (λ n. Reads 0 reader.old (number (unsigned n)) reader.new) }
+{
+    number(reader)
+}
+
+/// The same as `u32_of`, for the value of a member.
+#[inline(always)]
+#[tactic(auto, using(crate::proofs::Steps::below_spelled))]
+pub(crate) fn u32_value(reader: &mut Reader<'_>) -> Option<u32>
+    ensures { IfSome result (λ n. Spells (below (2 ^ 32)) 0 reader.old n reader.new) }
+{
+    let value = number_value(reader)?;
+    u32::try_from(value).ok()
+}
+
+/// The same as `u8_of`, for the value of a member.
+#[inline(always)]
+#[tactic(auto, using(crate::proofs::Steps::below_spelled))]
+pub(crate) fn u8_value(reader: &mut Reader<'_>) -> Option<u8>
+    ensures { IfSome result (λ n. Spells (below (2 ^ 8)) 0 reader.old n reader.new) }
+{
+    let value = number_value(reader)?;
+    u8::try_from(value).ok()
 }
 
 /// A whole number from the least to the most.

@@ -14,8 +14,8 @@ use Rattle.calvin_order.specs.Merged.{Batch, numbered}
 use Rattle.calvin_sched.specs.Scheduling.{Turn}
 use Rattle.calvin_sched.specs.Standing.{local_places}
 use Rattle.calvin_sched.specs.Steps as sched
-use Rattle.calvin_node.specs.declared.packet.Packet.{Packet}
-use Rattle.calvin_node.specs.declared.packet.Address.TheVariants.{AtNode}
+use Rattle.calvin_packets.specs.declared.packet.Packet.{Packet}
+use Rattle.calvin_packets.specs.declared.packet.Address.TheVariants.{AtNode}
 use Rattle.calvin_node.specs.declared.act.Act.TheVariants.{Merge, Begin}
 use Rattle.calvin_node.specs.NodeStates.{NodeState, node_from}
 use Rattle.calvin_node.specs.Handling.{NodeDeed, handle}

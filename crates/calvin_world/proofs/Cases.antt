@@ -41,14 +41,14 @@ use Rattle.calvin_sched.specs.Scheduling.{Turn, Scheduling, with_store, reads_he
 use Rattle.calvin_sched.specs.Steps as sched
 use Rattle.calvin_store.specs.Points.{mark_by, mark_at, cool_by}
 use Rattle.calvin_sched.specs.Standing.{local_places, none_done_from, all_done, closed_at, stands, take_map, take_from, take_rows, by_store, mark, warm}
-use Rattle.calvin_node.specs.declared.packet.Content.{Content}
-use Rattle.calvin_node.specs.declared.packet.Packet.{Packet}
-use Rattle.calvin_node.specs.declared.packet.Address.TheVariants.{AtNode, AtClient}
-use Rattle.calvin_node.specs.declared.packet.Content.TheVariants.{Synod, Decided, AskBatch, Reads, AskReads, Warm, Replies}
-use Rattle.calvin_node.specs.Packets.{to_each, synod_packets, participants, warm_packets}
+use Rattle.calvin_packets.specs.declared.packet.Content.{Content}
+use Rattle.calvin_packets.specs.declared.packet.Packet.{Packet}
+use Rattle.calvin_packets.specs.declared.packet.Address.TheVariants.{AtNode, AtClient}
+use Rattle.calvin_packets.specs.declared.packet.Content.TheVariants.{Synod, Decided, AskBatch, Reads, AskReads, Warm, Replies}
+use Rattle.calvin_packets.specs.Packets.{is_for, to_each, synod_packets, participants, warm_packets, telling}
 use Rattle.calvin_node.specs.NodeStates.{NodeState, own_slot, with_synod, with_sequencer, with_scheduler, holding, restarted}
 use Rattle.calvin_node.specs.Handling as handling
-use Rattle.calvin_node.specs.Handling.{NodeDeed, counted, telling}
+use Rattle.calvin_node.specs.Handling.{NodeDeed, counted}
 use Rattle.calvin_node.specs.Acting as node
 use Rattle.calvin_node.specs.declared.act.Act.{Act}
 use Rattle.calvin_node.specs.declared.act.Act.TheVariants.{Submit, SubmitCold, Cool, Close, Merge, Lock, Restart, Propose, Snapshot, Mark, Begin, Finish, AskForReads, AskForBatch}
@@ -279,7 +279,7 @@ module _ {Args Row Reply : Type 0} (config : Config) (x : NodeState Args Row) (n
     handle_content_does from (Replies q id attempt answer) e = absurd (refuses_not e)
 
     pub handle_does : (p : Packet Args Row Reply) → handling.handle config p x ≡ Does next sent → Handles m config p.from p.content x next sent
-    handle_does p e = go (handling.is_for p.to x.id) e
+    handle_does p e = go (is_for p.to x.id) e
       where
         go : (b : Bool) → cond b (handling.handle_content config p.from p.content x) (Refuses fault.NotMine) ≡ Does next sent → Handles m config p.from p.content x next sent
         go true e = handle_content_does p.from p.content e

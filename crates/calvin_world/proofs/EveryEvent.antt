@@ -13,10 +13,10 @@ use Rattle.calvin_app.specs.Serial.{answer_one, rows_before, answers_by_place}
 use Rattle.calvin_app.specs.declared.answer.Answer.{Answer}
 use Rattle.calvin_bench.specs.Turns.{site_of, AllBefore, Stands}
 use Rattle.calvin_node.specs.NodeStates.{NodeState, new_node}
-use Rattle.calvin_node.specs.declared.packet.Address.{Address}
-use Rattle.calvin_node.specs.declared.packet.Packet.{Packet}
-use Rattle.calvin_node.specs.declared.packet.Address.TheVariants.{AtNode, AtClient}
-use Rattle.calvin_node.specs.declared.packet.Content.TheVariants.{Replies}
+use Rattle.calvin_packets.specs.declared.packet.Address.{Address}
+use Rattle.calvin_packets.specs.declared.packet.Packet.{Packet}
+use Rattle.calvin_packets.specs.declared.packet.Address.TheVariants.{AtNode, AtClient}
+use Rattle.calvin_packets.specs.declared.packet.Content.TheVariants.{Replies}
 use Rattle.calvin_node.specs.Handling.{NodeDeed, handle}
 use Rattle.calvin_types.specs.Deeds.{Refuses, Does}
 use Rattle.calvin_order.proofs.Places.{before_by_epoch}

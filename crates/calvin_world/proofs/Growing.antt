@@ -26,11 +26,10 @@ use Rattle.calvin_node.specs.declared.act.Act.TheVariants.{Submit, SubmitCold, C
 use Rattle.calvin_synod.specs.Cases.{message_grows}
 use Rattle.calvin_sched.specs.Scheduling.{is_read_here}
 use Rattle.calvin_node.specs.Growing.{act_grows}
-use Rattle.calvin_node.specs.Handling.{telling}
 use Rattle.calvin_node.specs.NodeStates.{NodeState}
-use Rattle.calvin_node.specs.declared.packet.Packet.{Packet}
-use Rattle.calvin_node.specs.declared.packet.Content.TheVariants.{Synod, Reads}
-use Rattle.calvin_node.specs.Packets.{to_each, synod_packets}
+use Rattle.calvin_packets.specs.declared.packet.Packet.{Packet}
+use Rattle.calvin_packets.specs.declared.packet.Content.TheVariants.{Synod, Reads}
+use Rattle.calvin_packets.specs.Packets.{to_each, synod_packets, telling}
 use Rattle.calvin_world.proofs.Cases.{Handles, Acts}
 
 module _ {Args Row Reply : Type 0} (m : Meaning Args Row Reply) (config : Config) (x next : NodeState Args Row) (sent : List (Packet Args Row Reply)) where

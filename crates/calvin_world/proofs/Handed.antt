@@ -10,7 +10,7 @@ use Rattle.calvin_bench.proofs.OnePartition.{Keeps}
 use Rattle.calvin_node.specs.NodeStates.{NodeState}
 use Rattle.calvin_node.specs.Acting.{lock, lock_by, lock_first}
 use Rattle.calvin_node.specs.Handling.{NodeDeed}
-use Rattle.calvin_node.specs.declared.packet.Packet.{Packet}
+use Rattle.calvin_packets.specs.declared.packet.Packet.{Packet}
 use Rattle.calvin_order.proofs.Places.{before_by_epoch, before_end, is_lt_false}
 use Rattle.calvin_order.proofs.Standing.{stands_split, stands_left, stands_right}
 use Rattle.calvin_order.proofs.Epochs.{stretch_on, stretch_same, stretch_rises, stretch_stands, stands_within, stands_beyond}

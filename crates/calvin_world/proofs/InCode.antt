@@ -25,9 +25,9 @@ use Rattle.calvin_node.specs.Acting.{deed_of}
 use Rattle.calvin_node.specs.Growing.{act_grows, content_grows}
 use Rattle.calvin_node.specs.Running.{Running, NodeDid}
 use Rattle.calvin_node.specs.declared.act.Act.{Act}
-use Rattle.calvin_node.specs.declared.packet.Address.{Address}
-use Rattle.calvin_node.specs.declared.packet.Address.TheVariants.{AtNode, AtClient}
-use Rattle.calvin_node.specs.declared.packet.Packet.{Packet}
+use Rattle.calvin_packets.specs.declared.packet.Address.{Address}
+use Rattle.calvin_packets.specs.declared.packet.Address.TheVariants.{AtNode, AtClient}
+use Rattle.calvin_packets.specs.declared.packet.Packet.{Packet}
 use Rattle.calvin_world.specs.declared.event.Event.{Event}
 use Rattle.calvin_world.specs.declared.event.Event.TheVariants.{At, Deliver}
 use Rattle.calvin_world.specs.declared.event.Outcome.{Outcome}

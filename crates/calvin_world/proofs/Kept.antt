@@ -6,11 +6,11 @@ use Rattle.std.specs.FinMap.{get}
 use Rattle.std.proofs.lemmas.Bool.{cases_eq}
 use Rattle.std.proofs.lemmas.List.Elements.{Contains-append_left, Contains-append_right, Contains-append_cases}
 use Rattle.calvin_node.specs.NodeStates.{NodeState}
-use Rattle.calvin_node.specs.declared.packet.Content.{Content}
-use Rattle.calvin_node.specs.declared.packet.Packet.{Packet}
-use Rattle.calvin_node.specs.declared.packet.Address.TheVariants.{AtNode}
-use Rattle.calvin_node.specs.declared.packet.Content.TheVariants.{Synod, Decided}
-use Rattle.calvin_node.specs.Packets.{synod_packets, to_each}
+use Rattle.calvin_packets.specs.declared.packet.Content.{Content}
+use Rattle.calvin_packets.specs.declared.packet.Packet.{Packet}
+use Rattle.calvin_packets.specs.declared.packet.Address.TheVariants.{AtNode}
+use Rattle.calvin_packets.specs.declared.packet.Content.TheVariants.{Synod, Decided}
+use Rattle.calvin_packets.specs.Packets.{synod_packets, to_each}
 use Rattle.calvin_order.specs.Merged.{Batch}
 use Rattle.calvin_synod.specs.Cases.{Replica, Letters, Silent, ToOne, ToAll, Does, fresh}
 use Rattle.calvin_synod.specs.declared.message.Message.{Message}

@@ -33,6 +33,7 @@ pub mod SettledNodes
 pub mod SettledEvents
 pub mod SettledPromises
 pub mod SettledLaws
+pub mod SettledHistories
 pub mod SettledCalls
 pub mod Led
 pub mod InCode

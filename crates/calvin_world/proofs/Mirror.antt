@@ -10,8 +10,8 @@ use Rattle.calvin_app.specs.Meaning.{Meaning, WritesWithin}
 use Rattle.calvin_app.specs.Rows.{Rows}
 use Rattle.calvin_app.specs.declared.answer.Answer.{Answer}
 use Rattle.calvin_node.specs.NodeStates.{NodeState}
-use Rattle.calvin_node.specs.declared.packet.Packet.{Packet}
-use Rattle.calvin_node.specs.declared.packet.Content.TheVariants.{Reads, Replies}
+use Rattle.calvin_packets.specs.declared.packet.Packet.{Packet}
+use Rattle.calvin_packets.specs.declared.packet.Content.TheVariants.{Reads, Replies}
 use Rattle.calvin_order.specs.Configs.{Config, stretch, order}
 use Rattle.calvin_order.specs.Merged.{Batch, Assignment, end_of}
 use Rattle.calvin_types.specs.Orders.{Order, StandsAt}

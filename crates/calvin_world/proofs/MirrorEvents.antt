@@ -9,13 +9,13 @@ use Rattle.calvin_app.specs.Meaning.{Meaning, WritesWithin}
 use Rattle.calvin_app.specs.Rows.{Rows}
 use Rattle.calvin_app.specs.Stores.{warmed, cooled}
 use Rattle.calvin_bench.specs.Turns.{IsDone, site_of, AllBefore, Stands, Takes, Marks}
-use Rattle.calvin_node.specs.Handling.{counted, telling}
+use Rattle.calvin_node.specs.Handling.{counted}
 use Rattle.calvin_node.specs.NodeStates.{NodeState, holding, with_synod, with_scheduler, restarted}
-use Rattle.calvin_node.specs.declared.packet.Content.{Content}
-use Rattle.calvin_node.specs.declared.packet.Packet.{Packet}
-use Rattle.calvin_node.specs.declared.packet.Address.TheVariants.{AtNode, AtClient}
-use Rattle.calvin_node.specs.declared.packet.Content.TheVariants.{Synod, Decided, AskBatch, Reads, AskReads, Warm, Replies}
-use Rattle.calvin_node.specs.Packets.{synod_packets, to_each, participants, warm_packets}
+use Rattle.calvin_packets.specs.declared.packet.Content.{Content}
+use Rattle.calvin_packets.specs.declared.packet.Packet.{Packet}
+use Rattle.calvin_packets.specs.declared.packet.Address.TheVariants.{AtNode, AtClient}
+use Rattle.calvin_packets.specs.declared.packet.Content.TheVariants.{Synod, Decided, AskBatch, Reads, AskReads, Warm, Replies}
+use Rattle.calvin_packets.specs.Packets.{synod_packets, to_each, participants, warm_packets, telling}
 use Rattle.calvin_order.proofs.Places.{before_by_epoch, before_end}
 use Rattle.calvin_order.proofs.Standing.{stands_right}
 use Rattle.calvin_order.proofs.Epochs.{merged_same, stretch_on, stands_within, from_end}

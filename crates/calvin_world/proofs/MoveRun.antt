@@ -37,7 +37,7 @@ use Rattle.calvin_sched.specs.Standing.{stands, none_done_from, greatest_below}
 use Rattle.calvin_sched.specs.Steps as sched
 use Rattle.calvin_sched.proofs.Readiness.{none_kept}
 use Rattle.calvin_node.specs.declared.act.Act.TheVariants.{Lock, Begin, Finish}
-use Rattle.calvin_node.specs.declared.packet.Content.TheVariants.{Reads}
+use Rattle.calvin_packets.specs.declared.packet.Content.TheVariants.{Reads}
 use Rattle.calvin_node.specs.Acting as node
 use Rattle.calvin_node.specs.Handling.{handle, by_scheduler}
 use Rattle.calvin_world.specs.declared.event.Event.TheVariants.{At, Deliver}

@@ -23,9 +23,9 @@ use Rattle.calvin_sched.specs.declared.phase.Phase.TheVariants.{Done}
 use Rattle.calvin_sched.proofs.Keepers.{less_of}
 use Rattle.calvin_node.specs.NodeStates.{NodeState, site_of, with_synod}
 use Rattle.calvin_node.specs.Handling.{handle, counted}
-use Rattle.calvin_node.specs.declared.packet.Packet.{Packet}
-use Rattle.calvin_node.specs.declared.packet.Content.{Content}
-use Rattle.calvin_node.specs.declared.packet.Content.TheVariants.{Synod, Decided, AskBatch, Reads, AskReads, Warm, Replies}
+use Rattle.calvin_packets.specs.declared.packet.Packet.{Packet}
+use Rattle.calvin_packets.specs.declared.packet.Content.{Content}
+use Rattle.calvin_packets.specs.declared.packet.Content.TheVariants.{Synod, Decided, AskBatch, Reads, AskReads, Warm, Replies}
 use Rattle.calvin_node.specs.declared.act.Act.{Act}
 use Rattle.calvin_node.specs.declared.act.Act.TheVariants.{Submit, SubmitCold, Cool, Close, Merge, Lock, Restart, Propose, Snapshot, Mark, Begin, Finish, AskForReads, AskForBatch}
 use Rattle.calvin_node.specs.Acting.{deed_of, lock, lock_by, lock_first}

@@ -25,8 +25,8 @@ use Rattle.calvin_sched.specs.Scheduling.{Turn, new_turn, turn_at, turn_done, is
 use Rattle.calvin_sched.specs.Standing.{stands, none_done_from, greatest_below}
 use Rattle.calvin_sched.specs.Steps as sched
 use Rattle.calvin_sched.proofs.Readiness.{none_kept}
-use Rattle.calvin_node.specs.declared.packet.Address.TheVariants.{AtClient}
-use Rattle.calvin_node.specs.declared.packet.Content.TheVariants.{Replies}
+use Rattle.calvin_packets.specs.declared.packet.Address.TheVariants.{AtClient}
+use Rattle.calvin_packets.specs.declared.packet.Content.TheVariants.{Replies}
 use Rattle.calvin_node.specs.Acting as node
 use Rattle.calvin_node.specs.declared.act.Act.TheVariants.{Submit, Close, Merge}
 use Rattle.calvin_world.specs.declared.event.Event.{Event}

@@ -25,10 +25,10 @@ use Rattle.calvin_synod.specs.Roles.{promise_in, vote_in, bars_prepare, bars_acc
 use Rattle.calvin_order.specs.Configs.{Config}
 use Rattle.calvin_order.specs.Merged.{Batch}
 use Rattle.calvin_order.specs.Sequencing.{closed_in}
-use Rattle.calvin_node.specs.declared.packet.Packet.{Packet}
-use Rattle.calvin_node.specs.declared.packet.Address.TheVariants.{AtNode}
-use Rattle.calvin_node.specs.declared.packet.Content.{Content}
-use Rattle.calvin_node.specs.declared.packet.Content.TheVariants.{Synod}
+use Rattle.calvin_packets.specs.declared.packet.Packet.{Packet}
+use Rattle.calvin_packets.specs.declared.packet.Address.TheVariants.{AtNode}
+use Rattle.calvin_packets.specs.declared.packet.Content.{Content}
+use Rattle.calvin_packets.specs.declared.packet.Content.TheVariants.{Synod}
 use Rattle.calvin_node.specs.NodeStates.{NodeState, holding}
 use Rattle.calvin_node.specs.Handling.{NodeDeed, handle, by_synod, on_vote}
 use Rattle.calvin_node.specs.Acting as node

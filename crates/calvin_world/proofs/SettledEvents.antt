@@ -2,6 +2,7 @@
 --     NonePastIn w      in no node anything is admitted past the last place
 --     settled_is_there      a node of a settled world is one of the world, settled
 --     opening_settled      the opening is settled
+--     step_none, was_step      one event, in a world in code and in the definitions
 --     settled_leads, settled_later, leads_settled      a list of events from the opening, and one after it, in a world in code and in the definitions
 use Rattle.std.proofs.Common.{◌≡◌, ℕ, ◌*◌, ◌/◌, ◌%◌, inl, inr, Bool, true, false, cond, ◌&&◌, List, [], ◌∷◌, ◌++◌, map, Option, Some, None, refl, sym, ap, subst, ◌∙◌}
 use Rattle.std.proofs.lemmas.Option.{none-some, slice_get-map}
@@ -21,9 +22,9 @@ use Rattle.calvin_node.specs.Handling.{NodeDeed, handle}
 use Rattle.calvin_node.specs.Acting.{deed_of}
 use Rattle.calvin_node.specs.Growing.{act_grows}
 use Rattle.calvin_node.specs.Running.{settled}
-use Rattle.calvin_node.specs.declared.packet.Address.{Address}
-use Rattle.calvin_node.specs.declared.packet.Address.TheVariants.{AtNode, AtClient}
-use Rattle.calvin_node.specs.declared.packet.Packet.{Packet}
+use Rattle.calvin_packets.specs.declared.packet.Address.{Address}
+use Rattle.calvin_packets.specs.declared.packet.Address.TheVariants.{AtNode, AtClient}
+use Rattle.calvin_packets.specs.declared.packet.Packet.{Packet}
 use Rattle.calvin_world.specs.declared.event.Event.{Event}
 use Rattle.calvin_world.specs.declared.event.Event.TheVariants.{At, Deliver}
 use Rattle.calvin_world.specs.declared.event.Outcome.{Outcome}
@@ -143,12 +144,12 @@ module _ {Args Row Reply : Type 0} (m : Meaning Args Row Reply) where
 
   -- ---- lists of events
 
-  step_none : (w : WorldState Args Row Reply) → NonePastIn w → (event : Event Args) (outcome : Outcome) (next : WorldState Args Row Reply) → Step m w event outcome next → NonePastIn next
+  pub step_none : (w : WorldState Args Row Reply) → NonePastIn w → (event : Event Args) (outcome : Outcome) (next : WorldState Args Row Reply) → Step m w event outcome next → NonePastIn next
   step_none w none event outcome next (inl e) = subst NonePastIn (sym (ap (λ (y : Outcome × WorldState Args Row Reply). y.1) e)) (happens_none w none event)
   step_none w none event outcome next (inr e) = subst NonePastIn (sym e.3) none
 
   -- a step of the settled world is one of the world
-  was_step : (w v : WorldState Args Row Reply) → NonePastIn w → v ≡ settled_world w → (event : Event Args) (outcome : Outcome) (next : WorldState Args Row Reply) → SettledStep m v event outcome next
+  pub was_step : (w v : WorldState Args Row Reply) → NonePastIn w → v ≡ settled_world w → (event : Event Args) (outcome : Outcome) (next : WorldState Args Row Reply) → SettledStep m v event outcome next
       → (then : WorldState Args Row Reply) × Step m w event outcome then × (next ≡ settled_world then)
   was_step w v none is event outcome next (inl e) =
       let same : (outcome, next) ≡ settles m w event = e ∙ ap (λ v. settles m v event) is ∙ settles_same m w none event in

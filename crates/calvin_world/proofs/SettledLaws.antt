@@ -22,8 +22,8 @@ use Rattle.calvin_node.specs.Handling.{NodeDeed}
 use Rattle.calvin_node.specs.Acting.{lock}
 use Rattle.calvin_node.specs.Running.{settled}
 use Rattle.calvin_node.specs.declared.act.Act.TheVariants.{Lock}
-use Rattle.calvin_node.specs.declared.packet.Packet.{Packet}
-use Rattle.calvin_node.specs.declared.packet.Content.TheVariants.{Replies}
+use Rattle.calvin_packets.specs.declared.packet.Packet.{Packet}
+use Rattle.calvin_packets.specs.declared.packet.Content.TheVariants.{Replies}
 use Rattle.calvin_world.specs.declared.event.Event.{Event}
 use Rattle.calvin_world.specs.declared.event.Outcome.{Outcome}
 use Rattle.calvin_world.specs.Worlds.{WorldState, index_of, opening, Leads}
@@ -36,7 +36,7 @@ use Rattle.calvin_world.proofs.SettledEvents.{leads_none, opening_none, settled_
 use Rattle.calvin_world.proofs.SettledPromises.{settled_nodes, serial_settled, points_settled, alike_settled}
 
 module _ {Args Row Reply : Type 0} where
-  node_settled : (w : WorldState Args Row Reply) (id : NodeId) (x : NodeState Args Row) → IsNode w id x → IsNode (settled_world w) id (settled x)
+  pub node_settled : (w : WorldState Args Row Reply) (id : NodeId) (x : NodeState Args Row) → IsNode w id x → IsNode (settled_world w) id (settled x)
   node_settled w id x is = record { replica = is.replica; partition = is.partition; there = get_map settled w.nodes (index_of w.config.partitions id) x is.there }
 
   refuses_too : (d : NodeDeed Args Row Reply) (f : Fault) → settled_deed d ≡ Refuses f → d ≡ Refuses f

@@ -29,12 +29,12 @@ use Rattle.calvin_order.specs.Sequencing.{is_used, next_epoch}
 use Rattle.calvin_order.proofs.Joining.{numbered_stands}
 use Rattle.calvin_order.proofs.Standing.{stands_split}
 use Rattle.calvin_order.proofs.Epochs.{stretch_stands}
-use Rattle.calvin_node.specs.declared.packet.Address.{Address}
-use Rattle.calvin_node.specs.declared.packet.Packet.{Packet}
-use Rattle.calvin_node.specs.declared.packet.Address.TheVariants.{AtNode, AtClient}
-use Rattle.calvin_node.specs.declared.packet.Content.TheVariants.{Synod, Warm, Replies}
-use Rattle.calvin_node.specs.declared.packet.Content.{Content}
-use Rattle.calvin_node.specs.Packets.{participants}
+use Rattle.calvin_packets.specs.declared.packet.Address.{Address}
+use Rattle.calvin_packets.specs.declared.packet.Packet.{Packet}
+use Rattle.calvin_packets.specs.declared.packet.Address.TheVariants.{AtNode, AtClient}
+use Rattle.calvin_packets.specs.declared.packet.Content.TheVariants.{Synod, Warm, Replies}
+use Rattle.calvin_packets.specs.declared.packet.Content.{Content}
+use Rattle.calvin_packets.specs.Packets.{participants}
 use Rattle.calvin_node.specs.NodeStates.{NodeState, new_node}
 use Rattle.calvin_node.specs.Handling.{NodeDeed, handle}
 use Rattle.calvin_node.specs.declared.act.Act.{Act}

@@ -21,7 +21,7 @@ use Rattle.calvin_sched.specs.Scheduling.{is_done}
 use Rattle.calvin_sched.specs.Standing.{stands, none_done_from, greatest_below}
 use Rattle.calvin_sched.proofs.Readiness.{none_kept}
 use Rattle.calvin_node.specs.declared.act.Act.TheVariants.{Submit, Close, Merge, Lock, Restart, Propose}
-use Rattle.calvin_node.specs.declared.packet.Content.TheVariants.{Synod}
+use Rattle.calvin_packets.specs.declared.packet.Content.TheVariants.{Synod}
 use Rattle.calvin_node.specs.NodeStates.{restarted}
 use Rattle.calvin_node.specs.Handling.{handle, by_synod}
 use Rattle.calvin_node.specs.Acting as node

@@ -27,8 +27,8 @@ use Rattle.calvin_sched.specs.Scheduling.{Turn, turn_at}
 use Rattle.calvin_sched.specs.Standing.{local_places, all_done, stands}
 use Rattle.calvin_node.specs.declared.act.Act.{Act}
 use Rattle.calvin_node.specs.Acting.{submitted}
-use Rattle.calvin_node.specs.declared.packet.Packet.{Packet}
-use Rattle.calvin_node.specs.declared.packet.Content.TheVariants.{Synod, Reads, Replies}
+use Rattle.calvin_packets.specs.declared.packet.Packet.{Packet}
+use Rattle.calvin_packets.specs.declared.packet.Content.TheVariants.{Synod, Reads, Replies}
 use Rattle.calvin_node.specs.NodeStates.{NodeState}
 use Rattle.calvin_world.specs.declared.event.Event.{Event}
 use Rattle.calvin_world.specs.declared.event.Outcome.{Outcome}

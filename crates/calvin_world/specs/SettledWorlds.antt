@@ -6,7 +6,7 @@ use Rattle.calvin_types.specs.declared.fault.Fault.TheVariants.{OutOfMemory}
 use Rattle.calvin_types.specs.declared.place.NodeId.{NodeId}
 use Rattle.calvin_app.specs.Meaning.{Meaning}
 use Rattle.calvin_node.specs.NodeStates.{NodeState}
-use Rattle.calvin_node.specs.declared.packet.Packet.{Packet}
+use Rattle.calvin_packets.specs.declared.packet.Packet.{Packet}
 use Rattle.calvin_node.specs.Running.{settled}
 use Rattle.calvin_world.specs.declared.event.Event.{Event}
 use Rattle.calvin_world.specs.declared.event.Outcome.{Outcome}

@@ -14,9 +14,9 @@ use Rattle.calvin_synod.specs.declared.message.Message.TheVariants as message
 use Rattle.calvin_order.specs.Configs.{Config}
 use Rattle.calvin_order.specs.Merged.{Batch}
 use Rattle.calvin_node.specs.declared.act.Act.TheVariants.{Submit, Close, Propose}
-use Rattle.calvin_node.specs.declared.packet.Packet.{Packet}
-use Rattle.calvin_node.specs.declared.packet.Address.TheVariants.{AtNode}
-use Rattle.calvin_node.specs.declared.packet.Content.TheVariants.{Synod}
+use Rattle.calvin_packets.specs.declared.packet.Packet.{Packet}
+use Rattle.calvin_packets.specs.declared.packet.Address.TheVariants.{AtNode}
+use Rattle.calvin_packets.specs.declared.packet.Content.TheVariants.{Synod}
 use Rattle.calvin_world.specs.declared.event.Event.{Event}
 use Rattle.calvin_world.specs.declared.event.Outcome.{Outcome}
 use Rattle.calvin_world.specs.declared.event.Event.TheVariants.{At, Deliver}

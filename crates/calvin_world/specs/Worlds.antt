@@ -12,9 +12,9 @@ use Rattle.calvin_types.specs.Keys.{partition_of}
 use Rattle.calvin_types.specs.Deeds.{Refuses, Does}
 use Rattle.calvin_app.specs.Meaning.{Meaning}
 use Rattle.calvin_order.specs.Configs.{Config}
-use Rattle.calvin_node.specs.declared.packet.Address.{Address}
-use Rattle.calvin_node.specs.declared.packet.Packet.{Packet}
-use Rattle.calvin_node.specs.declared.packet.Address.TheVariants.{AtNode, AtClient}
+use Rattle.calvin_packets.specs.declared.packet.Address.{Address}
+use Rattle.calvin_packets.specs.declared.packet.Packet.{Packet}
+use Rattle.calvin_packets.specs.declared.packet.Address.TheVariants.{AtNode, AtClient}
 use Rattle.calvin_node.specs.NodeStates.{NodeState, new_node}
 use Rattle.calvin_node.specs.Growing.{content_grows, act_grows}
 use Rattle.calvin_node.specs.Handling.{NodeDeed, handle}

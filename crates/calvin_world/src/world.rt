@@ -2,14 +2,17 @@
 ghost use Rattle.std.specs.Prelude.{◌≡◌, ℕ, ◌<◌, ◌*◌, ◌/◌, ◌%◌, length, map, IfOk, OnErr, IsOkUnless, MatchOption, None, Some, slice_get};
 ghost use Rattle.calvin_node.specs.Running.{Running, config_of};
 ghost use Rattle.calvin_world.specs.declared.event.Event.TheVariants.{At, Deliver};
+ghost use Rattle.calvin_world.specs.Histories.{LeadsOn, StaysChosen, EverStays, WasSubmitted, SubmittedBefore, StandsInTime, StandsLater};
 ghost use Rattle.calvin_world.specs.Promises.{Agrees, IsSerial, PointsAreSerial, StandAlike};
+ghost use Rattle.calvin_world.specs.RunningWorlds.{IsReached};
 ghost use Rattle.calvin_world.specs.SettledWorlds.{settled_world, outcome_of, SettledStep, SettledLeads};
 ghost use Rattle.calvin_world.specs.Worlds.{WorldState, index_of, node_at, peek, opening};
 
 use crate::event::{Event, Outcome};
 use calvin_app::App;
 use calvin_lock::Locks;
-use calvin_node::{Act, Address, Node, Outbox, Packet};
+use calvin_node::{Act, Node};
+use calvin_packets::{Address, Outbox, Packet};
 use calvin_store::Rows;
 use calvin_types::{Config, Fault, Key, NodeId};
 use std::alloc::Global;
@@ -143,6 +146,19 @@ impl<A: App + Drop, L: Locks + Drop, S: Rows<A::Row> + Drop> World<A, L, S> {
         ensures serial { IsSerial A.meaning self.new }
         ensures points { PointsAreSerial A.meaning self.new }
         ensures alike { StandAlike self.new }
+        // What was chosen before, or held, is chosen; so is what was after a beginning of these events.
+        ensures stays { StaysChosen self.old self.new }
+        ensures beginnings { (v : WorldState A.Args A.Row A.Reply) → LeadsOn A.meaning self.old v → LeadsOn A.meaning v self.new → StaysChosen v self.new }
+        // A list of events led here from the opening, and the same was so after each beginning of it.
+        ensures reached { IsReached A.meaning self.new }
+        ensures ever { EverStays A.meaning self.new }
+        // Each request of what is chosen was submitted at its group by one of those events, in all its parts, and before it
+        // was chosen; where it stands in the order the next epoch of that node wasn't later.
+        ensures submitted { WasSubmitted A.meaning self.new }
+        ensures before { SubmittedBefore A.meaning self.new }
+        ensures in_time { StandsInTime A.meaning self.new }
+        // A request that nobody had submitted before a reply was sent stands in later epochs alone.
+        ensures later { StandsLater A.meaning self.new }
     {
         let mut outcomes = Vec::with_capacity(self.alloc, events.len())?;
         for event in events {

@@ -10,6 +10,7 @@ loop-place-preserved c = record {
   fits = c.in-Some.ensures.fits;
   queue = λ asks q. c.in-Some.ensures.queue asks (c.loop-place.invariant.queue asks q);
   sets = λ q. sets_kept c.loop-place.unreleased.places.entries c.grant.new.self.places.entries c.in-Some.place c.grant.ensures.places q ∙ c.loop-place.invariant.sets q;
+  order = c.grant.ensures.order ∙ c.loop-place.invariant.order;
   waits = λ more waits. fewer_waits c.loop-place.unreleased.places.entries c.grant.new.self.places.entries c.in-Some.place c.grant.ensures.places more c.loop-place.queue.waiting.items c.grant_next.new.self.waiting.items c.in-Some.ensures.waiting (c.loop-place.invariant.waits more waits);
 }
 

@@ -14,6 +14,7 @@ invariant-loop-place l = record {
   fits : Fits l.queue;
   queue : (asks : List Ask) → IsQueueOf asks l.fn.queue.holders l.fn.queue.waiting.items → IsQueueOf asks l.queue.holders l.queue.waiting.items;
   sets : (q : Place) → option_map (λ (p : Pending). p.sets) (pending_at l.unreleased.places.entries q) ≡ option_map (λ (p : Pending). p.sets) (pending_at l.fn.unreleased.places.entries q);
+  order : l.unreleased.order.items ≡ l.fn.unreleased.order.items;
   waits : (more : Place → ℕ) → WaitsFor (λ q. more q + waits_in q l.fn.queue.waiting.items) l.fn.unreleased.places.entries → WaitsFor (λ q. more q + waits_in q l.queue.waiting.items) l.unreleased.places.entries;
 }
 

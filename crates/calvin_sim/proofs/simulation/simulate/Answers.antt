@@ -1,6 +1,6 @@
 use denote.Memory.{lone}
 use Rattle.std.proofs.Common.{subst}
-use Rattle.calvin_node.proofs.PacketSizes.{packet_of}
+use Rattle.calvin_packets.proofs.PacketSizes.{packet_of}
 use Rattle.calvin_script.specs.Scripts.{contents}
 use Rattle.calvin_sim.specs.Simulations.{submissions, AllDone}
 use Rattle.calvin_sim.proofs.Leading.{quiet_then}

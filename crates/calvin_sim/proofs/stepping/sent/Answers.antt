@@ -1,5 +1,5 @@
 use denote.Memory.{lone}
-use Rattle.calvin_node.proofs.PacketSizes.{packet_of}
+use Rattle.calvin_packets.proofs.PacketSizes.{packet_of}
 use Rattle.calvin_sim.proofs.stepping.sent.Goals as goal
 
 pub packets-requires : goal.packets-requires

@@ -1,5 +1,5 @@
 use denote.Memory.{lone}
-use Rattle.calvin_node.proofs.PacketSizes.{packet_of}
+use Rattle.calvin_packets.proofs.PacketSizes.{packet_of}
 use Rattle.std.proofs.Common.{false, ◌++◌, ◌∙◌}
 use Rattle.calvin_node.specs.Running.{config_of}
 use Rattle.calvin_script.specs.Scripts.{contents}

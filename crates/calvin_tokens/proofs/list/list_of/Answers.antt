@@ -16,9 +16,10 @@ pub items-preserved : goal.items-preserved
 items-preserved g c =
     let one = g.T.Piece in
     let kept : c.ends_array-in-items.new.reader ≡ c.items.reader = c.ends_array-in-items.ensures.kept c.items-test.true in
+    let room : c.make_room.new.found.items ≡ c.items.found.items = c.in_ok-make_room.ensures in
     let pushed = c.in_ok-push_tokens.ensures in
     each_onward one.spelled one.deep c.ends_array.new.reader c.items.reader c.push_tokens.new.reader _ _ c.items.invariant
-    (rw kept at pushed)
+    (rw (kept, room) at pushed)
 
 pub items-smaller : goal.items-smaller
 items-smaller g c =

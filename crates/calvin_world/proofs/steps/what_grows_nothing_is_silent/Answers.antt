@@ -1,7 +1,7 @@
 -- From the cases of acts and messages.
 use Rattle.calvin_world.proofs.Cases.{acts_does, handle_content_does}
 use Rattle.calvin_world.proofs.Growing.{acts_silent, message_silent}
-use Rattle.calvin_node.specs.declared.packet.Content.TheVariants.{Synod}
+use Rattle.calvin_packets.specs.declared.packet.Content.TheVariants.{Synod}
 use Rattle.calvin_world.proofs.steps.what_grows_nothing_is_silent.Goals as goal
 
 pub returns-clause-acts : goal.returns-clause-acts

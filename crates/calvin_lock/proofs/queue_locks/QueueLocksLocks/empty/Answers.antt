@@ -1,6 +1,6 @@
-use Rattle.std.proofs.Common.{[], sym, ap, ◌∙◌}
+use Rattle.std.proofs.Common.{[], subst, sym, ap, ◌∙◌}
 use Rattle.std.proofs.lemmas.Option.{none-some}
-use Rattle.calvin_lock.specs.Unreleased.{pending_at}
+use Rattle.calvin_lock.specs.Unreleased.{Among, pending_at}
 use Rattle.calvin_lock.proofs.QueuedSteps.{sets_of}
 use Rattle.calvin_lock.proofs.queue_locks.QueueLocksLocks.empty.Goals as goal
 
@@ -12,4 +12,5 @@ invariant_of-result c = record {
   asked = c.new.ensures;
   waits = λ q p found. absurd (none-some p (sym (ap (λ es. pending_at es q) c.new-2.ensures.places) ∙ found));
   unreleased = c.new-2.ensures.kept;
+  up_to = λ q there. absurd (subst (λ l. Among l q) c.new-2.ensures.order there);
 }

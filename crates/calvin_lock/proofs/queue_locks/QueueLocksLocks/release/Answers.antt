@@ -12,17 +12,18 @@ invariant_of-self c =
     let last = c.self.inside.last in
     let k = c.self.invariant in
     let h = c.in-Some.sets in
-    let ready = c.in-Some.ensures.taken.0 in
+    let n = c.in-Some.ensures.taken.0.0 in
+    let ready = c.in-Some.ensures.taken.0.1 in
     let gone = c.in-Some.ensures.taken.1 in
-    let before = before_release qs u last k c.args.place h ready in
-    let after = after_release qs u last k c.args.place h ready in
-    let mid = mid_release qs u last k c.args.place h ready c.new.result c.new.ensures in
-    let written = leaves_written qs u last k c.args.place h ready c.new.result c.new.ensures in
-    let read = leaves_read qs u last k c.args.place h ready c.new.result c.new.ensures in
+    let before = before_release qs u last k c.args.place h n ready in
+    let after = after_release qs u last k c.args.place h n ready in
+    let mid = mid_release qs u last k c.args.place h n ready c.new.result c.new.ensures in
+    let written = leaves_written qs u last k c.args.place h n ready c.new.result c.new.ensures in
+    let read = leaves_read qs u last k c.args.place h n ready c.new.result c.new.ensures in
     let half = c.leave.ensures.queues before after k.asked written in
-    let waits = c.leave-in-Some.ensures.waits mid after half read (c.leave.ensures.waits before after k.asked written (taken_waits qs u last k c.args.place h ready c.new.result c.new.ensures c.take.new.self.places.entries gone)) in
-    released qs u last k c.args.place h ready c.new.result c.new.ensures c.take.new.self.places.entries gone c.leave-in-Some.new.unreleased
-    (λ q. c.leave-in-Some.ensures.sets q ∙ c.leave.ensures.sets q) c.leave-in-Some.new.self.queues.entries c.leave-in-Some.ensures.kept (c.leave-in-Some.ensures.queues mid after half read) waits
+    let waits = c.leave-in-Some.ensures.waits mid after half read (c.leave.ensures.waits before after k.asked written (taken_waits qs u last k c.args.place h n ready c.new.result c.new.ensures c.take.new.self.places.entries gone)) in
+    released qs u last k c.args.place h n ready c.new.result c.new.ensures c.take.new.self.places.entries gone c.leave-in-Some.new.unreleased
+    (λ q. c.leave-in-Some.ensures.sets q ∙ c.leave.ensures.sets q) (c.leave-in-Some.ensures.order ∙ c.leave.ensures.order ∙ c.take.ensures.order) c.leave-in-Some.new.self.queues.entries c.leave-in-Some.ensures.kept (c.leave-in-Some.ensures.queues mid after half read) waits
 
 pub returns-in-Some-clause-ok : goal.returns-in-Some-clause-ok
 returns-in-Some-clause-ok c =
@@ -31,9 +32,10 @@ returns-in-Some-clause-ok c =
     let last = c.self.inside.last in
     let k = c.self.invariant in
     let h = c.in-Some.sets in
-    let ready = c.in-Some.ensures.taken.0 in
+    let n = c.in-Some.ensures.taken.0.0 in
+    let ready = c.in-Some.ensures.taken.0.1 in
     let gone = c.in-Some.ensures.taken.1 in
-    let requested = released_map qs u last k c.args.place h ready c.new.result c.new.ensures c.take.new.self.places.entries gone c.leave-in-Some.new.unreleased
+    let requested = released_map qs u last k c.args.place h n ready c.new.result c.new.ensures c.take.new.self.places.entries gone c.leave-in-Some.new.unreleased
     (λ q. c.leave-in-Some.ensures.sets q ∙ c.leave.ensures.sets q)
     ∙ ap (λ l. map.remove l.requested c.args.place) c.self.view_is in
     λ i. record { requested = requested i; last = (c.self.view_is i).last }
@@ -41,7 +43,7 @@ returns-in-Some-clause-ok c =
 pub returns-in-Some-clause-held : goal.returns-in-Some-clause-held
 returns-in-Some-clause-held c =
     let iff = ready_iff c.self.inside.queues.queues.entries c.self.inside.unreleased c.self.inside.last c.self.invariant c.args.place in
-    (λ _. subst (λ l. IsReady l.requested c.args.place) c.self.view_is (iff.0 (_, c.in-Some.ensures.taken.0, refl)), λ _. refl)
+    (λ _. subst (λ l. IsReady l.requested c.args.place) c.self.view_is (iff.0 (_, c.in-Some.ensures.taken.0.1, refl)), λ _. refl)
 
 pub returns-in-None-clause-held : goal.returns-in-None-clause-held
 returns-in-None-clause-held c =

@@ -1,4 +1,4 @@
-use Rattle.std.proofs.Common.{◌≡◌, ◌+◌, ◌++◌, cond, if◌then◌else◌, Some, List, [], subst, sym, ap, ◌∙◌, arith, append_assoc}
+use Rattle.std.proofs.Common.{◌≡◌, ◌+◌, ◌++◌, cond, if◌then◌else◌, vec_len, Some, List, [], sym, ap, ◌∙◌, arith, append_assoc}
 use Rattle.std.specs.FinMap as map
 use Rattle.calvin_types.specs.declared.key.Key.{Key}
 use Rattle.calvin_types.specs.declared.place.Place.{Place}
@@ -6,7 +6,7 @@ use Rattle.calvin_lock.specs.declared.queue.Ask.{Ask}
 use Rattle.calvin_lock.specs.declared.queue.Kind.TheVariants as kind
 use Rattle.calvin_lock.specs.declared.unreleased.Pending.{Pending}
 use Rattle.calvin_lock.specs.Queues.{equal_places, ask_if, asked, ask_of, asks_of, waits_of}
-use Rattle.calvin_lock.specs.Unreleased.{Among, pending_at}
+use Rattle.calvin_lock.specs.Unreleased.{pending_at}
 use Rattle.calvin_lock.proofs.QueueMaps.{same_asks}
 use Rattle.calvin_lock.proofs.Waits.{both_waits}
 use Rattle.calvin_lock.proofs.QueuedSteps.{sets_of, new_place, last_place, requested, requested_map}
@@ -25,6 +25,7 @@ invariant_of-self c =
       asked = c.drop_all_empty-in-Err.ensures.kept asks fewer;
       waits = λ q p found. k.waits q p (sym (ap (λ es. pending_at es q) c.reserve.ensures.places) ∙ found) ∙ sym (c.drop_all_empty-in-Err.ensures.waits asks fewer q ∙ c.drop_all_empty.ensures.waits asks queues q ∙ c.reserve.ensures.waits q);
       unreleased = c.reserve.ensures.kept;
+      up_to = λ q there. k.up_to q (c.reserve.ensures.order q there);
     }
 
 pub add-requires-clause-new : goal.add-requires-clause-new
@@ -35,12 +36,12 @@ add-requires-clause-new c =
 pub add-requires-clause-last : goal.add-requires-clause-last
 add-requires-clause-last c = λ q there.
     last_place c.self.inside.queues.queues.entries c.self.inside.unreleased c.self.inside.last c.self.invariant c.args.place (c.is_past.ensures.0 c.if-not-is_past.false) q
-    (subst (λ l. Among l q) c.reserve.ensures.ready there)
+    (c.reserve.ensures.order q there)
 
 pub invariant_of-self-2 : goal.invariant_of-self-2
 invariant_of-self-2 c =
     let k = c.self.invariant in
-    let p : Pending = record { sets = record { reads = c.args.reads.now; writes = c.args.writes.now }; waits = c.join-exclusive.result + c.join-shared.result } in
+    let p : Pending = record { sets = record { reads = c.args.reads.now; writes = c.args.writes.now }; waits = c.join-exclusive.result + c.join-shared.result; near = vec_len c.reserve.new.unreleased.order } in
     let asks : Key → List Ask = λ key. asks_of key k.requests in
     let updated = λ (q : Place). c.add.ensures.places q ∙ ap (λ es. cond (equal_places c.args.place q) (Some p) (pending_at es q)) c.reserve.ensures.places in
     let exclusive = c.join-exclusive.ensures.kept asks (c.reserve.ensures.queues asks k.asked) in
@@ -54,12 +55,12 @@ invariant_of-self-2 c =
     let first = c.reserve.ensures.waits q in
     let both = both_waits (equal_places q c.args.place) c.join-exclusive.result c.join-shared.result in
     omega (arith, last, before, first, both) in
-    requested c.self.inside.queues.queues.entries c.self.inside.unreleased c.self.inside.last k c.args.place (c.is_past.ensures.0 c.if-not-is_past.false) c.add.new.self p updated c.join-shared.new.self.queues.entries c.add.ensures.kept joined counted
+    requested c.self.inside.queues.queues.entries c.self.inside.unreleased c.self.inside.last k c.args.place (c.is_past.ensures.0 c.if-not-is_past.false) c.add.new.self p updated c.join-shared.new.self.queues.entries c.add.ensures.kept c.add.ensures.order joined counted
 
 pub returns-clause-ok : goal.returns-clause-ok
 returns-clause-ok c =
     let k = c.self.invariant in
-    let p : Pending = record { sets = record { reads = c.args.reads.now; writes = c.args.writes.now }; waits = c.join-exclusive.result + c.join-shared.result } in
+    let p : Pending = record { sets = record { reads = c.args.reads.now; writes = c.args.writes.now }; waits = c.join-exclusive.result + c.join-shared.result; near = vec_len c.reserve.new.unreleased.order } in
     let updated = λ (q : Place). c.add.ensures.places q ∙ ap (λ es. cond (equal_places c.args.place q) (Some p) (pending_at es q)) c.reserve.ensures.places in
     let is = requested_map c.self.inside.queues.queues.entries c.self.inside.unreleased c.self.inside.last k c.args.place (c.is_past.ensures.0 c.if-not-is_past.false) c.add.new.self p updated
     ∙ ap (λ l. map.insert l.requested c.args.place p.sets) c.self.view_is in

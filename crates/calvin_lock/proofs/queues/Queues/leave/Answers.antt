@@ -14,6 +14,7 @@ loop-i-preserved-then-has c =
       kept = c.loop-i.invariant.kept;
       fits = c.loop-i.invariant.fits;
       sets = c.loop-i.invariant.sets;
+      order = c.loop-i.invariant.order;
       queues = λ before after queues leaves. same_asks _ _ c.loop-i.self.queues.entries (λ k. ap (λ b. cond b (after k) (before k)) (sym (same k))) (c.loop-i.invariant.queues before after queues leaves);
       waits = c.loop-i.invariant.waits;
     }
@@ -32,6 +33,7 @@ loop-i-preserved c =
       kept = c.pass_on.ensures.kept;
       fits = c.drop_empty.ensures.fits c.pass_on.ensures.fits;
       sets = λ q. c.pass_on.ensures.sets q ∙ c.loop-i.invariant.sets q;
+      order = c.pass_on.ensures.order ∙ c.loop-i.invariant.order;
       queues = λ before after queues leaves. c.drop_empty.ensures.kept (next before after)
           (c.pass_on.ensures.queues (mid before after) (next before after) (c.loop-i.invariant.queues before after queues leaves) (next_leaves keys except i key c.at-key.ensures c.len-i-end.ensures.rising free before after (leaves key there)));
       waits = λ before after queues leaves waits. waits_alike _ _ c.pass_on.new.unreleased.places.entries

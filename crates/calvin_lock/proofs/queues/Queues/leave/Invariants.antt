@@ -13,6 +13,7 @@ invariant-loop-i l = record {
   kept : IsUnreleased l.unreleased;
   fits : AllFit l.self.queues.entries;
   sets : (q : Place) → option_map (λ (p : Pending). p.sets) (pending_at l.unreleased.places.entries q) ≡ option_map (λ (p : Pending). p.sets) (pending_at l.fn.unreleased.places.entries q);
+  order : l.unreleased.order.items ≡ l.fn.unreleased.order.items;
   queues : (before after : Key → List Ask) → AreQueues before l.fn.self.queues.entries → ((k : Key) → asked l.keys l.except k ≡ true → Leaves (before k) (after k)) → AreQueues (λ k. cond (asked (take l.i l.keys) l.except k) (after k) (before k)) l.self.queues.entries;
   waits : (before after : Key → List Ask) → AreQueues before l.fn.self.queues.entries → ((k : Key) → asked l.keys l.except k ≡ true → Leaves (before k) (after k)) → WaitsFor (λ q. waits_of q l.fn.self.queues.entries) l.fn.unreleased.places.entries → WaitsFor (λ q. waits_of q l.self.queues.entries) l.unreleased.places.entries;
 }

@@ -6,12 +6,12 @@ use Rattle.calvin_sched.specs.Progress.{left}
 use Rattle.calvin_sched.specs.Scheduling.{turn_at, is_read_here}
 use Rattle.calvin_sched.specs.Steps as steps
 use Rattle.calvin_node.specs.declared.act.Act.TheVariants.{Begin}
-use Rattle.calvin_node.specs.declared.packet.Content.TheVariants.{Reads}
+use Rattle.calvin_packets.specs.declared.packet.Content.TheVariants.{Reads}
 use Rattle.calvin_node.specs.Acting as acting
 use Rattle.calvin_node.specs.Growing.{act_grows}
-use Rattle.calvin_node.specs.Packets.{to_each}
+use Rattle.calvin_packets.specs.Packets.{to_each}
 use Rattle.calvin_node.specs.Running.{NodeDid, config_of, state_of}
-use Rattle.calvin_node.proofs.PacketSizes.{serving_of}
+use Rattle.calvin_packets.proofs.PacketSizes.{serving_of}
 use Rattle.calvin_node.proofs.Settling.{running, left_then}
 use Rattle.calvin_node.proofs.Beginning.{begun}
 use Rattle.calvin_node.proofs.node.Node.begin.Goals as goal
@@ -36,7 +36,7 @@ returns-then-not-reads_here g c =
     record {
       did = subst (λ v. NodeDid {Reply = reply} (act_grows v.config (Begin c.args.place) v.state) (Ok tt) (acting.begin v.config c.args.place v.state) v (running config (record x { scheduler = s; due = left s c.begin.new.self.due })) sent sent) c.self.view_is
           (subst (λ d. NodeDid {Reply = reply} (act_grows config (Begin c.args.place) x) (Ok tt) (acting.begin config c.args.place x) (running config x) (running config (record x { scheduler = s; due = d })) sent sent)
-          (sym (left_then p.scheduler.scheduling s p.scheduler.due c.begin.new.self.due c.in_ok-_nothing_read.ensures.due c.merged_epochs-epochs.ensures.undone))
+          (sym (left_then p.scheduler.scheduling s p.scheduler.due c.begin.new.self.due c.in_ok-_nothing_read.ensures.due c.due_is_undone.ensures))
           (begun reply config x c.args.place sent out s did false read sent (sym (append-nil sent))));
     }
 
@@ -56,7 +56,7 @@ returns g c =
     record {
       did = subst (λ v. NodeDid {Reply = reply} (act_grows v.config (Begin c.args.place) v.state) (Ok tt) (acting.begin v.config c.args.place v.state) v (running config (record x { scheduler = s; due = left s c.begin-2.new.self.due })) sent all) c.self.view_is
           (subst (λ d. NodeDid {Reply = reply} (act_grows config (Begin c.args.place) x) (Ok tt) (acting.begin config c.args.place x) (running config x) (running config (record x { scheduler = s; due = d })) sent all)
-          (sym (left_then p.scheduler.scheduling s p.scheduler.due c.begin-2.new.self.due c.in_ok-serving.ensures.due c.merged_epochs-epochs.ensures.undone))
+          (sym (left_then p.scheduler.scheduling s p.scheduler.due c.begin-2.new.self.due c.in_ok-serving.ensures.due c.due_is_undone.ensures))
           (begun reply config x c.args.place sent out s did true read all
           (c.post_reads.ensures ∙ (λ i. c.in_ok-reserve.ensures.packets i ++ to_each p.id p.id.replica (Reads c.args.place (view i).rows) (view i).others))));
     }

@@ -15,6 +15,6 @@ returns g c =
     record {
       did = subst (λ v. NodeDid {Reply = g.row.A-Reply.Denot} true c.cool.result (acting.cool_row v.config c.args.key.now v.state) v (running config (record x { scheduler = s; due = left s c.cool.new.self.due })) [] []) c.self.view_is
           (subst (λ d. NodeDid {Reply = g.row.A-Reply.Denot} true c.cool.result (acting.cool_row config c.args.key.now x) (running config x) (running config (record x { scheduler = s; due = left s d })) [] [])
-          (c.merged_epochs-epochs.ensures.undone ∙ sym (ap (λ n. n.due) c.cool.ensures.rest))
+          (c.due_is_undone.ensures ∙ sym (ap (λ n. n.due) c.cool.ensures.rest))
           (scheduled g.row.A-Reply.Denot config x (left_again p.scheduler.scheduling p.scheduler.due) g.S.Rows.cold true (λ _. refl) c.cool.result (standing.cool g.S.Rows.cold c.args.key.now p.scheduler.scheduling) s c.cool.ensures.did));
     }

@@ -4,11 +4,11 @@ use Rattle.std.proofs.lemmas.Result.{err_from_is_err_and}
 use Rattle.calvin_sched.specs.Keeping.{Finished}
 use Rattle.calvin_sched.specs.Progress.{left}
 use Rattle.calvin_sched.specs.Steps as steps
-use Rattle.calvin_node.specs.declared.packet.Address.TheVariants.{AtClient}
-use Rattle.calvin_node.specs.declared.packet.Content.TheVariants.{Replies}
+use Rattle.calvin_packets.specs.declared.packet.Address.TheVariants.{AtClient}
+use Rattle.calvin_packets.specs.declared.packet.Content.TheVariants.{Replies}
 use Rattle.calvin_node.specs.NodeStates.{site_of}
 use Rattle.calvin_node.specs.Running.{NodeFinished, config_of, state_of}
-use Rattle.calvin_node.proofs.PacketSizes.{packet_of}
+use Rattle.calvin_packets.proofs.PacketSizes.{packet_of}
 use Rattle.calvin_node.proofs.Settling.{running, left_then, left_again, unchanged}
 use Rattle.calvin_node.proofs.Beginning.{finished, on_ok, cause}
 use Rattle.calvin_node.proofs.node.Node.finish.Goals as goal
@@ -38,7 +38,7 @@ returns-in_err-answer g c =
     record {
       did = subst (λ v. NodeFinished g.A.App.meaning j c.from_residual-in_err-answer.result v (running config (record x { scheduler = s; due = left s c.finish.new.self.due })) sent c.reserve.new.self.packets) c.self.view_is
           (subst (λ r. NodeFinished g.A.App.meaning j r (running config x) (running config (record x { scheduler = s; due = left s c.finish.new.self.due })) sent c.reserve.new.self.packets) (sym (failed.1 ∙ ap Err failed.2)) (
-            (λ i. running config (record x { scheduler = s; due = left_then p.scheduler.scheduling s p.scheduler.due c.finish.new.self.due c.in_err-answer.ensures.due c.merged_epochs-epochs.ensures.undone i })) ∙ unchanged reply config x (left_again p.scheduler.scheduling p.scheduler.due) s did.0,
+            (λ i. running config (record x { scheduler = s; due = left_then p.scheduler.scheduling s p.scheduler.due c.finish.new.self.due c.in_err-answer.ensures.due c.due_is_undone.ensures i })) ∙ unchanged reply config x (left_again p.scheduler.scheduling p.scheduler.due) s did.0,
             c.reserve.ensures.packets,
             cause did.1,
           ));
@@ -57,6 +57,6 @@ returns g c =
     record {
       did = subst (λ v. NodeFinished g.A.App.meaning j (Ok tt) v (running config (record x { scheduler = s; due = left s c.finish.new.self.due })) sent c.push_reserved.new.self.packets) c.self.view_is
           (subst (λ d. NodeFinished g.A.App.meaning j (Ok tt) (running config x) (running config (record x { scheduler = s; due = d })) sent c.push_reserved.new.self.packets)
-          (sym (left_then p.scheduler.scheduling s p.scheduler.due c.finish.new.self.due c.in_ok-answer.ensures.due c.merged_epochs-epochs.ensures.undone))
+          (sym (left_then p.scheduler.scheduling s p.scheduler.due c.finish.new.self.due c.in_ok-answer.ensures.due c.due_is_undone.ensures))
           (finished g.A.App.meaning config x sent j did.0 s did.1 c.in_ok-answer.answer did.2 c.push_reserved.new.self.packets (c.push_reserved.ensures.packets ∙ ap (λ ps. ps ++ record { from = p.id; to = AtClient j.txn.id.client; content = Replies j.place j.txn.id j.txn.attempt c.in_ok-answer.answer } ∷ []) c.reserve.ensures.packets)));
     }

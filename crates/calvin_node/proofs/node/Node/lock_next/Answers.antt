@@ -22,7 +22,7 @@ returns-in_err-admit g c =
     let refused = err_from_is_err_and c.from_residual.result c.from_residual.ensures.1 in
     let here = site p.config.partitions p.id.partition in
     let s = c.admit.new.self.scheduling in
-    let undone = c.merged_epochs-epochs.ensures.undone in
+    let undone = c.due_is_undone.ensures in
     let did = subst (λ h. Did {Out = Unit {0}} (has_local_key h e.1) (Err c.in_err-admit.field-0.0) (steps.admit h e.0 e.1 p.scheduler.scheduling) p.scheduler.scheduling s) c.self.invariant.here c.in_err-admit.ensures.did in
     record {
       did = subst (λ v. NodeDid {Reply = g.row.A-Reply.Denot} (act_grows v.config Lock v.state) c.from_residual.result (acting.lock v.config v.state) v
@@ -44,7 +44,7 @@ returns g c =
     let there = first_and_rest p.pending.items e c.in-Some.ensures.item.3.0 c.in-Some.ensures.lookup in
     let here = site p.config.partitions p.id.partition in
     let s = c.admit.new.self.scheduling in
-    let undone = c.merged_epochs-epochs.ensures.undone in
+    let undone = c.due_is_undone.ensures in
     let did = subst (λ h. Did (has_local_key h e.1) (Ok tt) (steps.admit h e.0 e.1 p.scheduler.scheduling) p.scheduler.scheduling s) c.self.invariant.here c.in_ok-admit.ensures.did in
     record {
       did = subst (λ v. NodeDid {Reply = g.row.A-Reply.Denot} (act_grows v.config Lock v.state) (Ok tt) (acting.lock v.config v.state) v

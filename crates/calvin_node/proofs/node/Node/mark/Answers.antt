@@ -18,6 +18,6 @@ returns g c =
     record {
       did = subst (λ v. NodeDid {Reply = g.row.A-Reply.Denot} false c.mark.result (acting.mark_end v.config c.args.epoch v.state) v (running config (record x { scheduler = s; due = left s c.mark.new.self.due })) [] []) c.self.view_is
           (subst (λ d. NodeDid {Reply = g.row.A-Reply.Denot} false c.mark.result (acting.mark_end config c.args.epoch x) (running config x) (running config (record x { scheduler = s; due = left s d })) [] [])
-          (c.merged_epochs-epochs.ensures.undone ∙ sym (ap (λ n. n.due) c.mark.ensures.rest))
+          (c.due_is_undone.ensures ∙ sym (ap (λ n. n.due) c.mark.ensures.rest))
           (scheduled g.row.A-Reply.Denot config x (left_again p.scheduler.scheduling p.scheduler.due) false false (λ h. h) c.mark.result (standing.mark g.S.Rows.points (suc c.args.epoch) p.scheduler.scheduling) s did));
     }

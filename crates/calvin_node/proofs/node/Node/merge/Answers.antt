@@ -43,10 +43,10 @@ returns-in_err-reserve g c =
     let full = complete_is reply config p.id p.member p.sequencer p.merge p.pending.items p.scheduler p.kept held in
     let is = c.in_ok-requests.ensures.merged ∙ ap (λ n. merged (unwoven n) (batch_at p.merge.held) p.merge.next) c.self.invariant.groups in
     let failed = err_from_is_err_and c.from_residual-in_err-reserve.result c.from_residual-in_err-reserve.ensures.1 in
-    let some = subst (λ o. is_some_request o ≡ true) is (some_request c.in_ok-requests.requests.items (subst (λ n. 0 < n) (c.len.ensures ∙ c.in_ok-requests.requests.ok.0) c.in_err-reserve.ensures.err.1)) in
+    let some = subst (λ o. is_some_request o ≡ true) is (some_request c.in_ok-requests.requests.items (subst (λ n. 0 < n) (c.len.ensures ∙ c.in_ok-requests.requests.ok.0) c.in_err-reserve.ensures.refused.1)) in
     record {
       did = subst (λ v. NodeDid {Reply = reply} (act_grows v.config Merge v.state) c.from_residual-in_err-reserve.result (acting.merge v.config v.state) v (running config (record x { pending = c.reserve.new.pending.items })) [] []) c.self.view_is
-          (subst (λ r. NodeDid {Reply = reply} (act_grows config Merge x) r (acting.merge config x) (running config x) (running config (record x { pending = c.reserve.new.pending.items })) [] []) (sym (failed.1 ∙ ap Err (failed.2 ∙ c.in_err-reserve.ensures.err.0)))
+          (subst (λ r. NodeDid {Reply = reply} (act_grows config Merge x) r (acting.merge config x) (running config x) (running config (record x { pending = c.reserve.new.pending.items })) [] []) (sym (failed.1 ∙ ap Err (failed.2 ∙ c.in_err-reserve.ensures.refused.0)))
           (subst (λ l. NodeDid {Reply = reply} (act_grows config Merge x) (Err OutOfMemory) (acting.merge config x) (running config x) (running config (record x { pending = l })) [] []) (sym c.in_err-reserve.ensures.items)
           (wanting reply config p.id p.member p.sequencer p.merge p.pending.items p.scheduler p.kept full some)));
     }
@@ -60,7 +60,7 @@ invariant_of-self-in_err-merged g c =
     let held = subst (λ n. HoldsAll p.merge.held p.merge.next n) c.self.invariant.groups c.in_ok-requests.ensures.complete in
     let full = complete_is reply config p.id p.member p.sequencer p.merge p.pending.items p.scheduler p.kept held in
     let is = c.in_ok-requests.ensures.merged ∙ ap (λ n. merged (unwoven n) (batch_at p.merge.held) p.merge.next) c.self.invariant.groups in
-    let did = untold reply config p.id p.member p.sequencer p.merge p.pending.items p.scheduler p.kept full c.in-Some.epoch c.in_ok-requests.requests.items is c.in-Some.ensures.next c.self.invariant.merged c.in_err-merged.field-0.0 c.merged.new.self (subst (λ l. Did {Out = Unit {0}} (list_any (λ f. has_local_key p.scheduler.here f.1) l) (Err c.in_err-merged.field-0.0) (merge c.in-Some.epoch l p.scheduler) p.scheduler c.merged.new.self) c.deref.ensures.value c.in_err-merged.ensures) in
+    let did = untold reply config p.id p.member p.sequencer p.merge p.pending.items p.scheduler p.kept full c.in-Some.epoch c.in_ok-requests.requests.items is c.in-Some.ensures.next c.self.invariant.merged c.in_err-merged.field-0.0 c.merged.new.self (subst (λ l. Did {Out = Unit {0}} (list_any (λ f. has_local_key p.scheduler.here f.1) l) (Err c.in_err-merged.field-0.0) (merge c.in-Some.epoch l p.scheduler) p.scheduler c.merged.new.self) c.deref.ensures.value c.in_err-merged.ensures.did) in
     subst (λ s. IsNode p.config.partitions p.config.replicas p.id p.member p.merge s) (sym did.0) c.self.invariant
 
 pub returns-in_err-merged : goal.returns-in_err-merged
@@ -73,7 +73,7 @@ returns-in_err-merged g c =
     let full = complete_is reply config p.id p.member p.sequencer p.merge p.pending.items p.scheduler p.kept held in
     let is = c.in_ok-requests.ensures.merged ∙ ap (λ n. merged (unwoven n) (batch_at p.merge.held) p.merge.next) c.self.invariant.groups in
     let failed = err_from_is_err_and c.from_residual-in_err-merged.result c.from_residual-in_err-merged.ensures.1 in
-    let did = untold reply config p.id p.member p.sequencer p.merge p.pending.items p.scheduler p.kept full c.in-Some.epoch c.in_ok-requests.requests.items is c.in-Some.ensures.next c.self.invariant.merged c.in_err-merged.field-0.0 c.merged.new.self (subst (λ l. Did {Out = Unit {0}} (list_any (λ f. has_local_key p.scheduler.here f.1) l) (Err c.in_err-merged.field-0.0) (merge c.in-Some.epoch l p.scheduler) p.scheduler c.merged.new.self) c.deref.ensures.value c.in_err-merged.ensures) in
+    let did = untold reply config p.id p.member p.sequencer p.merge p.pending.items p.scheduler p.kept full c.in-Some.epoch c.in_ok-requests.requests.items is c.in-Some.ensures.next c.self.invariant.merged c.in_err-merged.field-0.0 c.merged.new.self (subst (λ l. Did {Out = Unit {0}} (list_any (λ f. has_local_key p.scheduler.here f.1) l) (Err c.in_err-merged.field-0.0) (merge c.in-Some.epoch l p.scheduler) p.scheduler c.merged.new.self) c.deref.ensures.value c.in_err-merged.ensures.did) in
     record {
       did = subst (λ v. NodeDid {Reply = reply} (act_grows v.config Merge v.state) c.from_residual-in_err-merged.result (acting.merge v.config v.state) v
           (running config (state_of p.id p.member p.sequencer p.merge c.reserve.new.pending.items c.merged.new.self p.kept)) [] []) c.self.view_is
@@ -95,6 +95,6 @@ returns g c =
       did = subst (λ v. NodeDid {Reply = reply} (act_grows v.config Merge v.state) (Ok tt) (acting.merge v.config v.state) v
           (running config (state_of p.id p.member p.sequencer c.pass_epoch.new.self c.append.new.pending.items c.merged.new.self p.kept)) [] []) c.self.view_is
           (merging reply config p.id p.member p.sequencer p.merge p.pending.items p.scheduler p.kept full c.self.invariant.here c.in-Some.epoch c.in_ok-requests.requests.items is c.in-Some.ensures.next c.self.invariant.merged (act_grows config Merge x) c.pass_epoch.new.self c.append.new.pending.items c.merged.new.self
-          (subst (λ l. Did {Out = Unit {0}} (list_any (λ f. has_local_key p.scheduler.here f.1) l) (Ok tt) (merge c.in-Some.epoch l p.scheduler) p.scheduler c.merged.new.self) c.deref.ensures.value c.in_ok-merged.ensures)
+          (subst (λ l. Did {Out = Unit {0}} (list_any (λ f. has_local_key p.scheduler.here f.1) l) (Ok tt) (merge c.in-Some.epoch l p.scheduler) p.scheduler c.merged.new.self) c.deref.ensures.value c.in_ok-merged.ensures.did)
           c.in_ok-pass_epoch.ensures.next (c.append.ensures ∙ (λ i. c.in_ok-reserve.ensures.items i ++ c.deref-2.ensures.value i)));
     }

@@ -17,7 +17,7 @@ returns g c =
     record {
       did = subst (λ v. NodeDid {Reply = reply} true c.on_reads.result (handling.by_scheduler v.state (steps.on_reads (site_of v.config.partitions v.state) c.args.place c.args.from c.args.rows.now v.state.scheduler)) v (running config (record x { scheduler = s; due = left s c.on_reads.new.self.due })) [] []) c.self.view_is
           (subst (λ d. NodeDid {Reply = reply} true c.on_reads.result (handling.by_scheduler x (steps.on_reads (site_of p.config.partitions x) c.args.place c.args.from c.args.rows.now x.scheduler)) (running config x) (running config (record x { scheduler = s; due = left s d })) [] [])
-          (c.merged_epochs-epochs.ensures.undone ∙ sym (ap (λ n. n.due) c.on_reads.ensures.rest))
+          (c.due_is_undone.ensures ∙ sym (ap (λ n. n.due) c.on_reads.ensures.rest))
           (subst (λ here. NodeDid {Reply = reply} true c.on_reads.result (handling.by_scheduler x (steps.on_reads here c.args.place c.args.from c.args.rows.now x.scheduler)) (running config x) (running config (record x { scheduler = s; due = left s (left p.scheduler.scheduling p.scheduler.due) })) [] []) c.self.invariant.here
           (scheduled reply config x (left_again p.scheduler.scheduling p.scheduler.due) false true (λ _. refl) c.on_reads.result (steps.on_reads p.scheduler.here c.args.place c.args.from c.args.rows.now p.scheduler.scheduling) s c.on_reads.ensures.did)));
     }

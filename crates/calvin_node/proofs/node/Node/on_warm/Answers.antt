@@ -2,7 +2,7 @@ use Rattle.std.proofs.Common.{[], ◌++◌, true, refl, sym, ap, subst, ◌∙�
 use Rattle.calvin_types.specs.Deeds.{Does}
 use Rattle.calvin_sched.specs.Progress.{left}
 use Rattle.calvin_sched.specs.Standing as standing
-use Rattle.calvin_node.specs.declared.packet.Content.TheVariants.{Warm}
+use Rattle.calvin_packets.specs.declared.packet.Content.TheVariants.{Warm}
 use Rattle.calvin_node.specs.Handling as handling
 use Rattle.calvin_node.specs.Running.{NodeDid, config_of, state_of}
 use Rattle.calvin_node.proofs.Settling.{running, left_again, scheduled}
@@ -18,6 +18,6 @@ returns g c =
     record {
       did = subst (λ v. NodeDid {Reply = reply} true c.warm.result (handling.handle_content v.config v.state.id (Warm c.args.sets.now) v.state) v (running config (record x { scheduler = s; due = left s c.warm.new.self.due })) [] []) c.self.view_is
           (subst (λ d. NodeDid {Reply = reply} true c.warm.result (handling.handle_content config x.id (Warm c.args.sets.now) x) (running config x) (running config (record x { scheduler = s; due = left s d })) [] [])
-          (c.merged_epochs-epochs.ensures.undone ∙ sym (ap (λ n. n.due) c.warm.ensures.rest))
+          (c.due_is_undone.ensures ∙ sym (ap (λ n. n.due) c.warm.ensures.rest))
           (scheduled reply config x (left_again p.scheduler.scheduling p.scheduler.due) g.S.Rows.cold true (λ _. refl) c.warm.result (Does (standing.warm (c.args.sets.now.reads ++ c.args.sets.now.writes) p.scheduler.scheduling) tt) s c.warm.ensures.did));
     }

@@ -1,4 +1,4 @@
-use Rattle.std.proofs.Common.{◌≡◌, ◌+◌, ◌≤◌, ◌++◌, length, take}
+use Rattle.std.proofs.Common.{◌≡◌, ◌+◌, ◌++◌, length, take}
 use Rattle.std.specs.VecDeque.{deque_len, deque_capacity}
 use Rattle.calvin_types.specs.Participants.{site}
 use Rattle.calvin_sched.specs.Standing.{local_places}
@@ -11,4 +11,5 @@ invariant-loop-i g l = record {
   due : l.self.due.items ≡ l.fn.self.due.items ++ local_places (site l.config.partitions l.partition) (take l.i l.entries);
   len : deque_len l.self.due ≡ deque_len l.fn.self.due + length (local_places (site l.config.partitions l.partition) (take l.i l.entries));
   capacity : deque_capacity l.self.due ≡ deque_capacity l.fn.self.due;
+  room : l.self.room ≡ 0;
 }

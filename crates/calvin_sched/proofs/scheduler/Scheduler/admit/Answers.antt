@@ -46,6 +46,7 @@ invariant_of-self-2 g c = (
   progress_admitted c.self.inside.opened c.self.inside.last c.self.inside.turns.kept c.self.inside.progress.merged c.self.inside.progress.done c.self.inside.progress.due.items c.self.invariant.1 c.args.place c.in_ok-turn.turn c.insert.new.self.kept
       (ap (λ t. t.kept) c.insert.ensures ∙ ap (λ t. insert t.kept c.args.place c.in_ok-turn.turn) c.in_ok-reserve.ensures.ok)
       (ap (λ v. is_past v.scheduling.last c.args.place) c.self.view_is ∙ (and_parts _ _ (sym c.is_next.ensures ∙ c.if-not-is_next.false)).0) (ap (λ x. is_finished x.phase) c.in_ok-turn.ensures.turn),
+  c.self.invariant.2,
 )
 
 pub returns-clause-did : goal.returns-clause-did
@@ -69,6 +70,7 @@ invariant_of-self g c =
       keeps_passed (site c.self.inside.config.partitions c.self.inside.partition) (scheduling_of c.self.inside.opened c.self.inside.last c.self.inside.turns.kept (g.S.Rows.store c.self.inside.rows)) c.self.inside.turns.kept (g.L.Locks.kept c.self.inside.locks) c.self.invariant.0
           c.args.place (c.self.invariant.0.asked c.args.place past),
       passes c.self.inside.opened c.self.inside.last (turns_of c.self.inside.turns.kept) c.self.inside.progress.merged c.self.inside.progress.done c.self.inside.progress.due.items c.self.invariant.1 c.args.place past,
+      c.self.invariant.2,
     )
 
 pub returns-clause-rest : goal.returns-clause-rest
@@ -82,4 +84,5 @@ returns-clause-rest g c =
       room = (c.self.view_is i).room;
       merged = (c.self.view_is i).merged;
       due = due i;
+      due_room = (c.self.view_is i).due_room;
     }

@@ -50,6 +50,7 @@ invariant_of-self-then-not-is_active g c =
           waits c.begin.new.self.kept (ap (λ t. t.kept) begun.1) (active ∙ c.if-not-is_active.true)),
       progress_ended c.self.inside.opened c.self.inside.last c.self.inside.turns.kept c.self.inside.progress.merged c.self.inside.progress.done c.self.inside.progress.due.items c.self.invariant.1 c.args.place (record { turn = begun_turn here s.store.map kept.0.turn; room = kept.0.room }) c.begin.new.self.kept (ap (λ t. t.kept) begun.1) kept.0 kept.1
           (ap (λ b. is_finished (cond b Begun Done)) (active ∙ c.if-not-is_active.true)) c.finish.new.self.merged c.finish.new.self.done c.finish.new.self.due.items c.finish.ensures.merged c.finish.ensures.done c.finish.ensures.due,
+      c.finish.ensures.reserved,
     )
 
 pub invariant_of-self-else-not-is_active : goal.invariant_of-self-else-not-is_active
@@ -66,6 +67,7 @@ invariant_of-self-else-not-is_active g c =
           waits c.begin.new.self.kept (ap (λ t. t.kept) begun.1) (active ∙ c.if-not-is_active.false) ready,
       progress_stepped c.self.inside.opened c.self.inside.last c.self.inside.turns.kept c.self.inside.progress.merged c.self.inside.progress.done c.self.inside.progress.due.items c.self.invariant.1 c.args.place (record { turn = begun_turn here s.store.map kept.0.turn; room = kept.0.room }) c.begin.new.self.kept (ap (λ t. t.kept) begun.1) kept.0 kept.1
           (ap (λ b. is_finished (cond b Begun Done)) (active ∙ c.if-not-is_active.false) ∙ sym (ap is_finished waits)),
+      c.self.invariant.2,
     )
 
 pub returns-clause-did : goal.returns-clause-did
@@ -131,7 +133,7 @@ returns-clause-due g c =
 pub returns-clause-rest : goal.returns-clause-rest
 returns-clause-rest g c = elim c.if-not-is_active.branch [
   | then-not-is_active w ↦ w.self-is
-      ∙ (λ i. record { here = (c.self.view_is i).here; scheduling = (sym w.self-is i).scheduling; room = (c.self.view_is i).room; merged = (w.finish.ensures.merged ∙ ap (λ v. v.merged) c.self.view_is) i; due = (sym w.self-is i).due })
+      ∙ (λ i. record { here = (c.self.view_is i).here; scheduling = (sym w.self-is i).scheduling; room = (c.self.view_is i).room; merged = (w.finish.ensures.merged ∙ ap (λ v. v.merged) c.self.view_is) i; due = (sym w.self-is i).due; due_room = (w.finish.ensures.room ∙ ap (λ v. v.due_room) c.self.view_is) i })
   | else-not-is_active w ↦ w.self-is
-      ∙ (λ i. record { here = (c.self.view_is i).here; scheduling = (sym w.self-is i).scheduling; room = (c.self.view_is i).room; merged = (c.self.view_is i).merged; due = (sym w.self-is i).due })
+      ∙ (λ i. record { here = (c.self.view_is i).here; scheduling = (sym w.self-is i).scheduling; room = (c.self.view_is i).room; merged = (c.self.view_is i).merged; due = (sym w.self-is i).due; due_room = (c.self.view_is i).due_room })
 ]

@@ -9,8 +9,8 @@ use Rattle.calvin_sched.proofs.Taken.{refused_of, taken_of, not_yet, at_point, a
 use Rattle.calvin_sched.proofs.Readiness.{both_true}
 use Rattle.calvin_sched.proofs.scheduler.Scheduler.can_take.Goals as goal
 
-pub returns-then-not-is_done_up_to-clause-err : goal.returns-then-not-is_done_up_to-clause-err
-returns-then-not-is_done_up_to-clause-err g c =
+pub returns-then-not-is_done_up_to-clause-refused : goal.returns-then-not-is_done_up_to-clause-refused
+returns-then-not-is_done_up_to-clause-refused g c =
     let p = c.self.inside in
     let n = c.args.epoch + 1 in
     let s = scheduling_of p.opened p.last p.turns.kept (g.S.Rows.store p.rows) in
@@ -28,8 +28,8 @@ returns-then-is_marked_at-clause-ok g c =
     subst (λ v. takes_effect (take_rows v.merged v.due n v.scheduling) ≡ true) c.self.view_is
     (taken_of p.progress.merged (left s p.progress.due.items) n s (at_point p.opened p.last p.turns.kept (g.S.Rows.store p.rows) p.progress.merged p.progress.done p.progress.due.items c.self.invariant.1 n marked upto))
 
-pub returns-then-not-is_done_no_further-clause-err : goal.returns-then-not-is_done_no_further-clause-err
-returns-then-not-is_done_no_further-clause-err g c =
+pub returns-then-not-is_done_no_further-clause-refused : goal.returns-then-not-is_done_no_further-clause-refused
+returns-then-not-is_done_no_further-clause-refused g c =
     let p = c.self.inside in
     let n = c.args.epoch + 1 in
     let s = scheduling_of p.opened p.last p.turns.kept (g.S.Rows.store p.rows) in

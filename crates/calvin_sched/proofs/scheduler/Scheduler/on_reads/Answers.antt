@@ -33,6 +33,7 @@ invariant_of-self g c =
           c.receive.new.self.kept (ap (λ t. t.kept) (c.receive.ensures kept.0 kept.1)),
       progress_stepped c.self.inside.opened c.self.inside.last c.self.inside.turns.kept c.self.inside.progress.merged c.self.inside.progress.done c.self.inside.progress.due.items c.self.invariant.1 c.args.place
           (record { turn = with_rows c.args.from c.args.rows.now kept.0.turn; room = kept.0.room - 1 }) c.receive.new.self.kept (ap (λ t. t.kept) (c.receive.ensures kept.0 kept.1)) kept.0 kept.1 refl,
+      c.self.invariant.2,
     )
 
 pub returns-clause-did : goal.returns-clause-did
@@ -62,4 +63,5 @@ returns-clause-rest g c =
       room = (c.self.view_is i).room;
       merged = (c.self.view_is i).merged;
       due = due i;
+      due_room = (c.self.view_is i).due_room;
     }

@@ -11,6 +11,7 @@ pub invariant_of-result : goal.invariant_of-result
 invariant_of-result g c = (
   keeps_opened (site c.args.config.now.partitions c.args.partition) c.args.epochs (g.S.Rows.store c.args.rows) c.new.result.kept (g.L.Locks.kept c.empty.result) (ap (λ t. t.kept) c.new.ensures) c.empty.ensures,
   at_first c.args.epochs (turns_of c.new.result.kept) (ap (λ t. turns_of t.kept) c.new.ensures ∙ no_turns) c.from_epochs.result.merged c.from_epochs.result.done (subst (λ n. n ≤ 2 ^ 64) (sym c.from_epochs.ensures.merged) c.requires) c.from_epochs.ensures.done c.from_epochs.result.due.items c.from_epochs.ensures.due,
+  c.from_epochs.ensures.reserved,
 )
 
 pub returns : goal.returns
@@ -22,4 +23,5 @@ returns g c =
       room = g.S.Rows.room c.args.rows;
       merged = c.from_epochs.ensures.merged i;
       due = ap (left (scheduling_of c.args.epochs None c.new.result.kept (g.S.Rows.store c.args.rows))) c.from_epochs.ensures.due i;
+      due_room = c.from_epochs.ensures.room i;
     }

@@ -8,8 +8,8 @@ use Rattle.calvin_sched.proofs.Begins.{not_yet}
 use Rattle.calvin_sched.proofs.ReadyHere.{ready_of}
 use Rattle.calvin_sched.proofs.scheduler.Scheduler.ready_to_begin.Goals as goal
 
-pub returns-then-not-is_ready-clause-err : goal.returns-then-not-is_ready-clause-err
-returns-then-not-is_ready-clause-err g c =
+pub returns-then-not-is_ready-clause-refused : goal.returns-then-not-is_ready-clause-refused
+returns-then-not-is_ready-clause-refused g c =
     let x = c.in-Some.turn.now.turn in
     let test = subst (λ v. turn_at v.scheduling c.args.place ≡ Some x → is_finished x.phase ≡ false → IsReady (g.L.Locks.kept c.self.inside.locks).requested c.args.place ↔ (is_ready v.here v.scheduling c.args.place x.request ≡ true))
     c.self.view_is (λ there waits. ready_of _ _ _ _ c.self.invariant.0 c.args.place x there waits) c.in-Some.ensures (ap is_finished (sym c.in-Waiting.ensures)) in

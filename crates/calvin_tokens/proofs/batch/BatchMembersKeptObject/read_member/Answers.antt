@@ -10,9 +10,9 @@ use Rattle.calvin_tokens.proofs.batch.BatchMembersKeptObject.read_member.Goals a
 pub returns-then-is_same : goal.returns-then-is_same
 returns-then-is_same g c found h =
     let G = g.Op.Operation.grammar in
-    let s = c.in_ok-u8_of.ensures in
-    member_read (below (2 ^ 8)) c.in_ok-u8_of.field-0 (HoldsBatch G) 123 0 found c.args.name.now (codes "group") c.args.reader.now c.u8_of.new.reader _ (c.is_same.ensures c.if-is_same.true) (omega arith) s
-    (group_held G found s.piece c.args.self.now h c.in_ok-u8_of.field-0 s.means)
+    let s = c.in_ok-u8_value.ensures in
+    member_read (below (2 ^ 8)) c.in_ok-u8_value.field-0 (HoldsBatch G) 123 0 found c.args.name.now (codes "group") c.args.reader.now c.u8_value.new.reader _ (c.is_same.ensures c.if-is_same.true) (omega arith) s
+    (group_held G found s.piece c.args.self.now h c.in_ok-u8_value.field-0 s.means)
 
 pub returns-then-is_same-2 : goal.returns-then-is_same-2
 returns-then-is_same-2 g c found h =

@@ -1,4 +1,4 @@
-use Rattle.std.proofs.Common.{◌≡◌, true, Some, sym, ap, ◌∙◌}
+use Rattle.std.proofs.Common.{◌≡◌, Some, sym, ap, ◌∙◌}
 use Rattle.calvin_tokens.proofs.Whole.{without_sets, with_sets}
 use Rattle.calvin_tokens.proofs.request.RequestMembers.finish.Goals as goal
 

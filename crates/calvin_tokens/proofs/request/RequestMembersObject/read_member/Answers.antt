@@ -12,14 +12,14 @@ pub returns-then-is_same : goal.returns-then-is_same
 returns-then-is_same g c found h =
     let G = g.Op.Operation.grammar in
     let s = c.in_ok-self.ensures in
-    member_read (below (2 ^ 32)) c.in_ok-self.field-0 (HoldsRequest G) 121 0 found c.args.name.now (codes "client") c.args.reader.now c.u32_of.new.reader _ (c.is_same.ensures c.if-is_same.true) (omega arith) s
+    member_read (below (2 ^ 32)) c.in_ok-self.field-0 (HoldsRequest G) 121 0 found c.args.name.now (codes "client") c.args.reader.now c.u32_value.new.reader _ (c.is_same.ensures c.if-is_same.true) (omega arith) s
     (client_held G found s.piece c.args.self.now h c.in_ok-self.field-0 s.means)
 
 pub returns-then-is_same-2 : goal.returns-then-is_same-2
 returns-then-is_same-2 g c found h =
     let G = g.Op.Operation.grammar in
     let s = c.in_ok-self-2.ensures in
-    member_read (below (2 ^ 32)) c.in_ok-self-2.field-0 (HoldsRequest G) 121 0 found c.args.name.now (codes "number") c.args.reader.now c.u32_of-then-is_same-2.new.reader _ (c.is_same-2.ensures c.if-is_same-2.true) (omega arith) s
+    member_read (below (2 ^ 32)) c.in_ok-self-2.field-0 (HoldsRequest G) 121 0 found c.args.name.now (codes "number") c.args.reader.now c.u32_value-then-is_same-2.new.reader _ (c.is_same-2.ensures c.if-is_same-2.true) (omega arith) s
     (own_number_held G found s.piece c.args.self.now h c.in_ok-self-2.field-0 s.means)
 
 pub returns-then-is_same-3 : goal.returns-then-is_same-3
@@ -53,5 +53,5 @@ pub returns-then-is_same-6 : goal.returns-then-is_same-6
 returns-then-is_same-6 g c found h =
     let G = g.Op.Operation.grammar in
     let s = c.in_ok-self-3.ensures in
-    member_read (below (2 ^ 8)) c.in_ok-self-3.field-0 (HoldsRequest G) 121 0 found c.args.name.now (codes "attempt") c.args.reader.now c.u8_of.new.reader _ (c.is_same-6.ensures c.if-is_same-6.true) (omega arith) s
+    member_read (below (2 ^ 8)) c.in_ok-self-3.field-0 (HoldsRequest G) 121 0 found c.args.name.now (codes "attempt") c.args.reader.now c.u8_value.new.reader _ (c.is_same-6.ensures c.if-is_same-6.true) (omega arith) s
     (attempt_held G found s.piece c.args.self.now h c.in_ok-self-3.field-0 s.means)

@@ -5,10 +5,11 @@ use Rattle.calvin_script.specs.StockOperations.{order, stock_operation}
 use Rattle.calvin_tokens.proofs.Operations.{named_spelled, additem_is, restock_is, open_is, payin_is, order_is, settle_is, balance_is}
 use Rattle.calvin_tokens.proofs.stock.StockRequestOperationTokens.read_tokens.Goals as goal
 
-pub returns-in_ok-order : goal.returns-in_ok-order
-returns-in_ok-order c =
-    rw c.placing_of.ensures (named_spelled stock_operation order Order (codes "order") order_is 2 c.in_ok-order.order c.in_ok-name.name.now c.args.reader.now c.opens_array.new.reader c.string_at.new.reader c.order_at.new.reader
-    (omega arith) c.in_ok-opens_array.ensures c.in_ok-name.ensures (c.is_same.ensures c.if-is_same.true) c.in_ok-order.ensures)
+pub returns-in_ok-read_order : goal.returns-in_ok-read_order
+returns-in_ok-read_order c =
+    let made = c.in_ok-read_order.ensures in
+    rw made.1 (named_spelled stock_operation order Order (codes "order") order_is 2 made.0 c.in_ok-name.name.now c.args.reader.now c.opens_array.new.reader c.string_at.new.reader c.read_order.new.reader
+    (omega arith) c.in_ok-opens_array.ensures c.in_ok-name.ensures (c.is_same.ensures c.if-is_same.true) made.2)
 
 pub returns-in_ok-customer : goal.returns-in_ok-customer
 returns-in_ok-customer c =

@@ -3,7 +3,7 @@ use denote.Memory.{lone}
 use Rattle.std.proofs.Common.{◌≡◌, ℕ, ◌<◌, length, None, Some, slice_get, slice_set, sym, ap, subst, ◌∙◌}
 use Rattle.std.proofs.lemmas.List.{length-map}
 use Rattle.std.proofs.lemmas.Option.{slice_get-get_or, slice_get_past}
-use Rattle.calvin_node.proofs.PacketSizes.{packet_of}
+use Rattle.calvin_packets.proofs.PacketSizes.{packet_of}
 use Rattle.calvin_types.specs.declared.fault.Fault.TheVariants.{NoPacket}
 use Rattle.calvin_node.specs.Growing.{content_grows}
 use Rattle.calvin_node.specs.Handling.{handle}

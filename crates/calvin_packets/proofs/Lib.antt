@@ -1,0 +1,3 @@
+pub mod PacketSizes
+mod Sent
+mod MemberSteps

@@ -1,0 +1,17 @@
+use Rattle.std.proofs.Common.{sym, ap, ◌∙◌}
+use Rattle.calvin_app.specs.Serial.{answer_on, writes_on}
+use Rattle.calvin_sched.specs.Scheduling.{whole_view}
+use Rattle.calvin_sched.proofs.scheduler.Scheduler.compute.Goals as goal
+
+pub returns-clause-ok : goal.returns-clause-ok
+returns-clause-ok g c =
+    let m = g.A.App.meaning in
+    let x = c.in_ok-turn.turn.now.turn in
+    let seen = c.whole_view-view.ensures ∙ ap (λ v. whole_view v.here x) c.self.view_is in
+    let told = c.txn-txn.ensures in (
+      record { place = c.args.place; txn = x.request; view = whole_view c.args.self.now.here x },
+      c.in_ok-turn.ensures.ok,
+      ap (λ t. (t.id, t.attempt)) told,
+      c.run_on.ensures.answer ∙ (λ i. answer_on m (told i) (seen i)),
+      c.run_on.ensures.writes ∙ (λ i. writes_on m (told i) (seen i)),
+    )

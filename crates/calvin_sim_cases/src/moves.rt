@@ -1,0 +1,146 @@
+//! Two partitions in three replicas: what is told, which rows the nodes end with, and what they sent.
+use calvin_app::Kv;
+use calvin_edge::{MemorySink, MemorySource};
+use calvin_lock::QueueLocks;
+use calvin_packets::Content;
+use calvin_sim::{Restarts, Schedule, Simulated, sim};
+use calvin_store::{PlainRows, Rows};
+use calvin_types::{Key, NodeId, Place};
+use calvin_world::World;
+use std::alloc::Global;
+use std::process::Abort;
+
+type KvWorld = World<Kv, QueueLocks, PlainRows<u64>>;
+
+const REPLICAS: u8 = 3;
+
+const SECOND: Place = Place { epoch: 0, n: 1 };
+
+const MOVE: &str =
+    r#"{"partitions":2,"app":"kv","epochs":[[{"group":0,"txns":[{"client":7,"number":1,"op":["put",1,10]},{"client":7,"number":2,"op":["move",1,2,4]}]}]]}"#;
+
+const MOVED: &str = "0.0 7:1 done\n0.1 7:2 done\nfinished 0\n";
+
+fn key(id: u64) -> Key {
+    Key { table: 0, id }
+}
+
+/// A world in which a script was run, whose text is this one: a schedule from a start number, of 1,000 events.
+fn world_of(
+    rt: &impl Abort,
+    alloc: Global,
+    start: u64,
+    restarts: Restarts,
+    script: &str,
+    text: &str,
+) -> KvWorld {
+    let Some(schedule) = Schedule::new(start, 1000, REPLICAS, restarts) else {
+        panic!(rt; "no schedule");
+    };
+    let mut input = MemorySource::new(script.as_bytes());
+    let mut output = MemorySink::new(alloc);
+    let Ok(Simulated::Kv(world)) = sim(alloc, &schedule, &mut input, &mut output) else {
+        panic!(rt; "the script was refused");
+    };
+    assert!(rt;
+        output.taken.as_slice() == text.as_bytes(),
+        "the text for {script}"
+    );
+    world
+}
+
+/// The rows of keys 1 and 2 at every replica, and how many rows each node has.
+fn ends_with(rt: &impl Abort, world: &KvWorld, first: Option<u64>, second: Option<u64>) {
+    for replica in 0..REPLICAS {
+        assert_eq!(rt; world.peek(replica, &key(1)), first);
+        assert_eq!(rt; world.peek(replica, &key(2)), second);
+        for (partition, row) in [(0, second), (1, first)] {
+            let Some(node) = world.node(NodeId { replica, partition }) else {
+                panic!(rt; "no node {replica}.{partition}");
+            };
+            assert_eq!(rt; node.rows().len(), row.is_some() as usize);
+        }
+    }
+}
+
+/// Whether a node sent a reply for a place.
+fn replied(world: &KvWorld, id: NodeId, place: Place) -> bool {
+    for packet in world.packets() {
+        if let Content::Replies(at, ..) = &packet.content {
+            if packet.from == id && *at == place {
+                return true;
+            }
+        }
+    }
+    false
+}
+
+/// Whether a node sent the rows that it read for a place.
+fn served(world: &KvWorld, id: NodeId, place: Place) -> bool {
+    for packet in world.packets() {
+        if let Content::Reads(at, _) = &packet.content {
+            if packet.from == id && *at == place {
+                return true;
+            }
+        }
+    }
+    false
+}
+
+#[test]
+fn move_across_partitions(rt: HostRuntime) {
+    let world = world_of(&rt, rt.alloc(), 1, Restarts::Never, MOVE, MOVED);
+    ends_with(&rt, &world, Some(6), Some(4));
+}
+
+#[test]
+fn move_short(rt: HostRuntime) {
+    let script =
+        r#"{"partitions":2,"app":"kv","epochs":[[{"group":0,"txns":[{"client":7,"number":1,"op":["put",1,10]},{"client":7,"number":2,"op":["move",1,2,11]}]}]]}"#;
+    let text = "0.0 7:1 done\n0.1 7:2 short\nfinished 0\n";
+    let world = world_of(&rt, rt.alloc(), 1, Restarts::Never, script, text);
+    ends_with(&rt, &world, Some(10), None);
+    for replica in 0..REPLICAS {
+        for partition in 0..2 {
+            assert!(&rt; replied(&world, NodeId { replica, partition }, SECOND));
+        }
+    }
+}
+
+#[test]
+fn passive_partition(rt: HostRuntime) {
+    let script =
+        r#"{"partitions":2,"app":"kv","epochs":[[{"group":0,"txns":[{"client":7,"number":1,"op":["get",[2,3]]}]}]]}"#;
+    let first = Place { epoch: 0, n: 0 };
+    let text = "0.0 7:1 none none\nfinished 0\n";
+    let world = world_of(&rt, rt.alloc(), 1, Restarts::Never, script, text);
+    for replica in 0..REPLICAS {
+        let (active, passive) = (
+            NodeId {
+                replica,
+                partition: 0,
+            },
+            NodeId {
+                replica,
+                partition: 1,
+            },
+        );
+        assert!(&rt; replied(&world, active, first) && !served(&world, active, first));
+        assert!(&rt; served(&world, passive, first) && !replied(&world, passive, first));
+    }
+}
+
+#[test]
+fn sim_with_restarts(rt: HostRuntime) {
+    for start in 1..51 {
+        let world = world_of(
+            &rt,
+            rt.alloc(),
+            start,
+            Restarts::AboveReplicaZero,
+            MOVE,
+            MOVED,
+        );
+        ends_with(&rt, &world, Some(6), Some(4));
+    }
+}

@@ -1,0 +1,98 @@
+"""Draws scripts of epochs of both applications. Requests declare no sets, the sets that they need then, or sets that are stale
+or wrong in some other way; keys are few and numbers are often at their limits, so that every answer comes."""
+
+import plain_serial
+
+KEYS = 5
+
+
+def drawn_number(draw):
+    return draw.choice([0, 1, 2, 3, 4, 5, draw.randrange(20), 2**64 - 2, 2**64 - 1])
+
+
+def drawn_kv(draw):
+    key = draw.randrange(KEYS)
+    kind = draw.randrange(9)
+    if kind < 3:
+        return ["put", key, drawn_number(draw)]
+    if kind == 3:
+        return ["get", draw.sample(range(KEYS + 12), draw.randrange(1, 17))]
+    if kind == 4:
+        return ["add", key, drawn_number(draw)]
+    if kind < 7:
+        return ["move", key, draw.randrange(KEYS), drawn_number(draw)]
+    return ["follow", key]
+
+
+def drawn_stock(draw):
+    key, kind = draw.randrange(3), draw.randrange(20)
+    pieces = draw.choice([0, 1, 2, 3, 5, 50, 50, 50, 10**9 - 1, 10**9, 10**9 + 1])
+    if kind < 3:
+        return ["additem", draw.randrange(3), pieces, draw.choice([0, 1, 2, 7, 7, 10**6, 10**15, 10**15 + 1, 2**64 - 1])]
+    if kind == 3:
+        return ["restock", draw.randrange(4), draw.choice([pieces, 2**64 - 1])]
+    if kind < 7:
+        return ["open", key]
+    if kind < 10:
+        return ["payin", key, draw.choice([0, 1, 5, 100, 100, 10**6, 10**15, 2**64 - 1])]
+    if kind < 15:
+        items = draw.sample(range(4), draw.choice([1, 1, 1, 2, 3, 4]))
+        return ["order", key, draw.randrange(6), [[item, draw.choice([1, 1, 2, 3, 10**9])] for item in items]]
+    return ["settle" if kind < 18 else "balance", key]
+
+
+OPERATIONS = {"kv": drawn_kv, "stock": drawn_stock}
+MOST_REQUESTS = {"kv": 6, "stock": 20}
+
+
+def other_sets(draw, sets):
+    """Sets that differ from these in a key that is missing, superfluous or in the other set."""
+    reads, writes = ([list(key) for key in keys] for keys in sets)
+    one = draw.choice([reads, writes])
+    what = draw.randrange(3)
+    if what == 0 and one:
+        one.remove(draw.choice(one))
+    elif what == 1:
+        key = [draw.choice([0, 1, 2, 3, 255]), draw.randrange(KEYS)]
+        if key not in one and len(one) < 16:
+            one.append(key)
+    else:
+        reads, writes = writes, reads
+    return reads, writes
+
+
+def drawn_dependent(draw, app):
+    """An operation whose sets depend on rows."""
+    return ["follow", draw.randrange(KEYS)] if app == "kv" else ["settle", draw.randrange(3)]
+
+
+def drawn_txn(draw, app, run, number):
+    op = drawn_dependent(draw, app) if run.scouts and draw.randrange(6) == 0 else OPERATIONS[app](draw)
+    txn = {"client": draw.randrange(2**32), "number": number, "op": op}
+    if draw.randrange(4) == 0:
+        txn["attempt"] = draw.randrange(1, 9)
+    kind = draw.randrange(12 if run.scouts else 5)
+    if kind < 3:
+        sets = run.first_sets(txn["op"]) if kind == 2 else run.sets(txn["op"])
+        reads, writes = sets if draw.randrange(4) else other_sets(draw, sets)
+        if reads or writes:
+            txn["reads"], txn["writes"] = ([list(key) for key in draw.sample(keys, len(keys))] for keys in (reads, writes))
+    return txn
+
+
+def drawn_script(draw, app, scouts, partitions=None):
+    """A script of so many partitions, or of 1 to 16, whose rows are kept along, so that requests can declare the sets that they
+    need."""
+    partitions, run, epochs = partitions or draw.randrange(1, 17), plain_serial.Run(app, scouts), []
+    for _ in range(draw.randrange(2, 7) if scouts else draw.randrange(1, 5)):
+        batches = []
+        run.begin_epoch()
+        for group in sorted(draw.sample(range(partitions), min(partitions, draw.randrange(1, 4)))):
+            txns = []
+            for _ in range(draw.randrange(MOST_REQUESTS[app])):
+                txns.append(drawn_txn(draw, app, run, len(txns)))
+                run.answer(txns[-1])
+            batches.append({"group": group, "txns": txns})
+        draw.shuffle(batches)
+        epochs.append(batches)
+    return {"partitions": partitions, "app": app, "epochs": epochs}
