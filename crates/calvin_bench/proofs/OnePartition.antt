@@ -29,7 +29,8 @@ use Rattle.calvin_types.proofs.PlaceOrder.{place_total, place_exact, not_before_
 use Rattle.calvin_bench.proofs.Placing.{places, earlier, same_place, later, before_trans}
 use Rattle.calvin_bench.proofs.KeyRows.{same_rows}
 use Rattle.calvin_bench.proofs.Insertions.{insert_each, insert_cases}
-use Rattle.calvin_bench.proofs.LocalKeys.{local_has, has_local, any_local, write_uses, read_uses, conflict_local, get-gathered, is_there}
+use Rattle.calvin_sched.proofs.Gathering.{local_has, get-gathered}
+use Rattle.calvin_bench.proofs.LocalKeys.{has_local, any_local, write_uses, read_uses, conflict_local, is_there}
 use Rattle.calvin_bench.proofs.FromPlace.{from_place_stands, stands_from_place, from_place_rises}
 use Rattle.calvin_types.proofs.ExactMaps.{insert_here}
 use Rattle.calvin_app.proofs.Views.{get-view}

@@ -1,6 +1,10 @@
 //! How a node runs what is merged: each request is locked, begins, is run and finished.
-ghost use Rattle.std.specs.Prelude.{◌≡◌, []};
+ghost use Rattle.std.specs.Prelude.{◌≡◌, ◌≤◌, ◌++◌, []};
+ghost use Rattle.std.specs.Option.{ForSome};
+ghost use Rattle.calvin_packets.specs.declared.packet.Content.TheVariants.{Reads};
+ghost use Rattle.calvin_packets.specs.Packets.{to_each};
 ghost use Rattle.calvin_sched.specs.Keeping.{IsFirstReadyHere};
+ghost use Rattle.calvin_sched.specs.Scheduling.{turn_at, other_active};
 ghost use Rattle.calvin_sched.specs.Standing.{stands_at};
 ghost use Rattle.calvin_sched.specs.Steps as steps;
 ghost use Rattle.calvin_node.specs.Acting as acting;
@@ -42,13 +46,26 @@ impl<A: App, L: Locks + Drop, S: Rows<A::Row> + Drop> Node<A, L, S> {
         self.scheduler.due_is_undone();
         self.scheduler.check_begin(place)?;
         if !self.scheduler.reads_here(place) {
-            let _nothing_read = self.scheduler.begin(place)?;
+            self.scheduler.begin_in_place(place)?;
             return Ok(());
         }
         outbox.reserve(MOST_KEYS)?;
-        let serving = self.scheduler.begin(place)?;
-        outbox.post_reads(self.id, place, &serving.rows, &serving.others);
+        self.scheduler.begin_in_place(place)?;
+        self.post_served(place, outbox);
         Ok(())
+    }
+
+    /// The rows that the request at a place read here are sent to the other partitions of the replica that run it, if it is
+    /// admitted. There is room.
+    fn post_served(&self, place: Place, outbox: &mut Outbox<A>)
+        requires { MOST_KEYS ≤ outbox.old.room }
+        ensures { ForSome (turn_at self.now.state.scheduler place) (λ x. let here = site_of self.now.config.partitions self.now.state in
+            outbox.new.packets ≡ outbox.old.packets ++ to_each self.now.state.id self.now.state.id.replica (Reads place x.served) (other_active here x.request)) }
+    {
+        if let Some(turn) = self.scheduler.turn(place) {
+            let others = turn.others(&self.config, self.id.partition);
+            outbox.post_reads(self.id, place, turn.served(), &others);
+        }
     }
 
     /// What is to be run at a place. Refused with `NotReady` where the request has not begun or is done, else with

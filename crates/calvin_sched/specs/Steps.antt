@@ -34,6 +34,11 @@ pub record Serving (Args Row : Type 0) : Type 0 where
   pub rows : Rows Row
   pub others : List ℕ
 
+-- what comes out isn't asked for
+abbrev pub silently : {S Out : Type 0} → Deed S Out → Deed S (Unit {0})
+silently (Refuses f) = Refuses f
+silently (Does s out) = Does s tt
+
 module _ {Args Row : Type 0} where
   -- whether what stands at a place is unreleased and conflicts with the request t
   abbrev pub blocks : Site → Option (Turn Args Row) → Txn Args → Bool

@@ -22,3 +22,4 @@ pub use law::{due_is, ready_is};
 pub use phase::Phase;
 pub use scheduler::Scheduler;
 pub use serving::Serving;
+pub use turn::Turn;

@@ -30,9 +30,13 @@ impl<A: App, L: Locks + Drop, S: Rows<A::Row> + Drop> Scheduler<A, L, S> {
         ensures refused { IfErr result (λ fault. steps.job self.now.here place self.now.scheduling ≡ Err fault) }
     {
         let turn = self.due(place)?;
-        let view = turn.whole_view(&self.config, self.partition);
         let txn = turn.txn();
-        run_on(app, txn, &view, answer, writes);
+        if turn.reads_here_alone(&self.config, self.partition) {
+            run_on(app, txn, turn.served(), answer, writes);
+        } else {
+            let view = turn.whole_view(&self.config, self.partition);
+            run_on(app, txn, &view, answer, writes);
+        }
         Ok((txn.id, txn.attempt))
     }
 

@@ -126,7 +126,7 @@ impl<A: App, L: Locks + Drop, S: Rows<A::Row> + Drop> Scheduler<A, L, S> {
     }
 
     /// The request that is admitted at a place.
-    pub(crate) fn turn(&self, place: Place) -> Option<&Turn<A>>
+    pub fn turn(&self, place: Place) -> Option<&Turn<A>>
         ensures { MatchOption result (turn_at self.now.scheduling place ≡ None) (λ turn. turn_at self.now.scheduling place ≡ Some turn.now.turn) }
     {
         self.turns.get(place)
@@ -196,18 +196,27 @@ impl<A: App, L: Locks + Drop, S: Rows<A::Row> + Drop> Scheduler<A, L, S> {
         ensures rest { self.new ≡ record self.old { scheduling = self.new.scheduling; due = self.new.due } }
         ensures due { self.new.due ≡ left self.new.scheduling self.old.due }
     {
+        self.begin_in_place(place)?;
+        match self.turn(place) {
+            Some(turn) => Ok(turn.serving(&self.config, self.partition)),
+            None => Err(Fault::NotReady),
+        }
+    }
+
+    /// The same as `begin`, but that what it answers stays where it is: `turn` has it.
+    pub fn begin_in_place(&mut self, place: Place) -> Result<(), Fault>
+        ensures did { Did false result (steps.silently (steps.begin self.old.here place self.old.scheduling)) self.old.scheduling self.new.scheduling }
+        ensures rest { self.new ≡ record self.old { scheduling = self.new.scheduling; due = self.new.due } }
+        ensures due { self.new.due ≡ left self.new.scheduling self.old.due }
+    {
         let is_active = self.ready_to_begin(place)?;
-        let Some(serving) = self
-            .turns
-            .begin(place, &self.config, self.partition, &self.rows)
-        else {
-            return Err(Fault::NotReady);
-        };
+        self.turns
+            .begin(place, &self.config, self.partition, &self.rows);
         if !is_active {
             let _released = self.locks.release(place);
             self.progress.finish(place, self.opened, &self.turns);
         }
-        Ok(serving)
+        Ok(())
     }
 
     /// Keeps the rows that came from another partition for the request at a place. Refused with `NotAwaited` where it isn't
@@ -316,7 +325,7 @@ impl<A: App, L: Locks + Drop, S: Rows<A::Row> + Drop> Scheduler<A, L, S> {
         };
         match turn.phase() {
             Phase::Waiting => Err(Fault::NotServed),
-            Phase::Begun | Phase::Done => Ok(turn.served()),
+            Phase::Begun | Phase::Done => Ok(*turn.served()),
         }
     }
 

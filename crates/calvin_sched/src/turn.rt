@@ -1,5 +1,6 @@
 //! An admitted request.
 ghost use Rattle.std.specs.Prelude.{◌≡◌, if◌then◌else◌, ◌<◌, ◌≤◌, ◌-◌, ◌||◌, ◌&&◌, ◌==◌, not, is_some, max, length, IsTrue, IfOk, OnOk, OnErr, IsOkUnless};
+ghost use Rattle.std.specs.List.{list_all};
 ghost use Rattle.std.specs.FinMap as map;
 ghost use Rattle.calvin_types.specs.Keys.{partition_of};
 ghost use Rattle.calvin_types.specs.Participants.{site, is_local, local_keys, is_active};
@@ -29,7 +30,9 @@ pub struct Turn<A: App> {
 }
 
 impl<A: App> Model for Turn<A> {
+    ghost use Rattle.std.specs.Prelude.{◌≡◌};
     ghost use Rattle.calvin_sched.specs.Keeping.{Kept};
+    ghost use Rattle.calvin_sched.specs.Scheduling.{gathered};
     ghost use Rattle.std.specs.Coded.{codes};
     ghost use Rattle.std.specs.FinMap.{code};
 
@@ -41,6 +44,8 @@ impl<A: App> Model for Turn<A> {
       turn = record { request = t.job.value.txn; phase = t.phase; served = t.job.value.view; came = t.came.rows };
       room = t.came.room;
     } };
+
+    ghost invariant = { λ t. gathered (λ _. t.job.value.view) t.job.value.txn.sets.reads ≡ t.job.value.view };
 }
 
 impl<A: App> Turn<A> {
@@ -101,10 +106,10 @@ impl<A: App> Turn<A> {
     }
 
     /// The rows that were read here.
-    pub fn served(&self) -> View<A::Row>
-        ensures { result ≡ self.now.turn.served }
+    pub fn served(&self) -> &View<A::Row>
+        ensures { result.now ≡ self.now.turn.served }
     {
-        self.job.view
+        &self.job.view
     }
 
     /// Whether rows of another partition are still to come.
@@ -171,6 +176,27 @@ impl<A: App> Turn<A> {
         }
     }
 
+    /// Whether all keys that it reads are stored here: then what was read here are the rows of all of them.
+    pub fn reads_here_alone(&self, config: &Config, partition: u8) -> bool
+        ensures { IsTrue result → whole_view (site config.now.partitions partition) self.now.turn ≡ self.now.turn.served }
+    {
+        let _phase = self.phase;
+        self.are_reads_here(config, partition)
+    }
+
+    /// Whether all keys that it reads are stored here.
+    fn are_reads_here(&self, config: &Config, partition: u8) -> bool
+        ensures { result ≡ list_all (is_local (site config.now.partitions partition)) self.now.turn.request.sets.reads }
+    {
+        let keys = self.reads();
+        for i in 0..keys.len() {
+            if config.partition_of(&keys.at(i)) != partition {
+                return false;
+            }
+        }
+        true
+    }
+
     /// The rows of all keys that are read.
     pub fn whole_view(&self, config: &Config, partition: u8) -> View<A::Row>
         ensures { result ≡ whole_view (site config.now.partitions partition) self.now.turn }
@@ -210,27 +236,27 @@ impl<A: App> Turn<A> {
         others
     }
 
-    /// Reads what is stored here, and answers it. Where the request is passive here it is done, as others run it.
-    pub fn begin<S: Rows<A::Row>>(&mut self, config: &Config, partition: u8, rows: &S) -> Serving<A>
+    /// Reads what is stored here. Where the request is passive here it is done, as others run it.
+    pub fn begin<S: Rows<A::Row>>(&mut self, config: &Config, partition: u8, rows: &S)
         ensures turn { self.new.turn ≡ begun_turn (site config.now.partitions partition) (S.store rows.now).map self.old.turn }
         ensures room { self.new.room ≡ self.old.room }
-        ensures serving { result ≡ serving (site config.now.partitions partition) (begun_turn (site config.now.partitions partition) (S.store rows.now).map self.old.turn) }
     {
-        let mut served = View::new();
-        look_up(
-            &Reading { rows },
-            &self.reads().part(config, partition),
-            &mut served,
-        );
-        let serving = Serving {
-            txn: *self.txn(),
-            rows: served,
-            others: self.others(config, partition),
-        };
+        let keys = self.reads().part(config, partition);
         let is_active = self.txn().is_active(config, partition);
-        self.job.view = served;
+        self.job.view.clear();
+        look_up(&Reading { rows }, &keys, &mut self.job.view);
         self.phase = phase_after_reading(is_active);
-        serving
+    }
+
+    /// What it answers once it has begun.
+    pub fn serving(&self, config: &Config, partition: u8) -> Serving<A>
+        ensures { result ≡ serving (site config.now.partitions partition) self.now.turn }
+    {
+        Serving {
+            txn: self.job.txn,
+            rows: self.job.view,
+            others: self.others(config, partition),
+        }
     }
 
     /// Keeps the rows that came from another partition. There is room for them.

@@ -1,14 +1,13 @@
 //! The admitted requests by their places.
-ghost use Rattle.std.specs.Prelude.{◌≡◌, ◌-◌, ◌<◌, None, Some, max, IsNone, IsOk, IsSome, OnOk, OnErr, IsOkUnless};
+ghost use Rattle.std.specs.Prelude.{◌≡◌, ◌-◌, ◌<◌, None, max, IsOk, IsSome, OnOk, OnErr, IsOkUnless};
 ghost use Rattle.std.specs.Option.{ForSome, option_copied};
 ghost use Rattle.std.specs.FinMap as map;
 ghost use Rattle.calvin_types.specs.Participants.{site};
 ghost use Rattle.calvin_sched.specs.Keeping.{turns_of};
 ghost use Rattle.calvin_sched.specs.Scheduling.{turn_done};
-ghost use Rattle.calvin_sched.specs.Steps.{begun_turn, serving, with_rows};
+ghost use Rattle.calvin_sched.specs.Steps.{begun_turn, with_rows};
 ghost use Rattle.calvin_sched.specs.declared.phase.Phase.TheVariants.{Done};
 
-use crate::serving::Serving;
 use crate::turn::Turn;
 use calvin_app::{App, View};
 use calvin_store::Rows;
@@ -92,23 +91,15 @@ impl<A: App> Turns<A> {
         self.room -= 1;
     }
 
-    /// The request at a place, if there is one, begins, and answers what it read here.
-    pub fn begin<S: Rows<A::Row>>(
-        &mut self,
-        place: Place,
-        config: &Config,
-        partition: u8,
-        rows: &S,
-    ) -> Option<Serving<A>>
-        ensures none { map.get self.old.kept place ≡ None → IsNone result × (self.new ≡ self.old) }
-        ensures some { ForSome (map.get self.old.kept place) (λ k. let here = site config.now.partitions partition in let x = begun_turn here (S.store rows.now).map k.turn in
-            (result ≡ Some (serving here x)) × (self.new ≡ record self.old { kept = map.insert self.old.kept place (record { turn = x; room = k.room }) })) }
+    /// The request at a place, if there is one, begins.
+    pub fn begin<S: Rows<A::Row>>(&mut self, place: Place, config: &Config, partition: u8, rows: &S)
+        ensures none { map.get self.old.kept place ≡ None → self.new ≡ self.old }
+        ensures some { ForSome (map.get self.old.kept place) (λ k. self.new ≡ record self.old { kept = map.insert self.old.kept place (record { turn = begun_turn (site config.now.partitions partition) (S.store rows.now).map k.turn; room = k.room }) }) }
     {
         let Some(turn) = self.turns.get_mut(&place) else {
-            return None;
+            return;
         };
-        let serving = turn.begin(config, partition, rows);
-        Some(serving)
+        turn.begin(config, partition, rows);
     }
 
     /// Keeps rows of another partition for the request at a place, which is there and has room for them.

@@ -1,5 +1,4 @@
-use denote.Memory.{lone}
-use Rattle.std.proofs.Common.{◌≡◌, ◌++◌, true, false, Ok, sym, subst, ◌∙◌}
+use Rattle.std.proofs.Common.{◌≡◌, ◌++◌, true, false, Ok, sym, ap, subst, ◌∙◌}
 use Rattle.std.proofs.lemmas.List.{append-nil}
 use Rattle.calvin_types.specs.Deeds.{Did}
 use Rattle.calvin_sched.specs.Progress.{left}
@@ -10,17 +9,12 @@ use Rattle.calvin_packets.specs.declared.packet.Content.TheVariants.{Reads}
 use Rattle.calvin_node.specs.Acting as acting
 use Rattle.calvin_node.specs.Growing.{act_grows}
 use Rattle.calvin_packets.specs.Packets.{to_each}
+use Rattle.calvin_node.specs.NodeStates.{site_of}
 use Rattle.calvin_node.specs.Running.{NodeDid, config_of, state_of}
-use Rattle.calvin_packets.proofs.PacketSizes.{serving_of}
+use Rattle.calvin_sched.proofs.Begins.{has_begun}
 use Rattle.calvin_node.proofs.Settling.{running, left_then}
 use Rattle.calvin_node.proofs.Beginning.{begun}
 use Rattle.calvin_node.proofs.node.Node.begin.Goals as goal
-
-pub begin-requires : goal.begin-requires
-begin-requires g c = serving_of (lone g.row.A-Args.mir) (lone g.row.A-Row.mir) (lone g.row.A-Reply.mir) g.met.A.App.work_fits
-
-pub begin-requires-2 : goal.begin-requires-2
-begin-requires-2 g c = serving_of (lone g.row.A-Args.mir) (lone g.row.A-Row.mir) (lone g.row.A-Reply.mir) g.met.A.App.work_fits
 
 pub returns-then-not-reads_here : goal.returns-then-not-reads_here
 returns-then-not-reads_here g c =
@@ -28,15 +22,17 @@ returns-then-not-reads_here g c =
     let x = state_of p.id p.member p.sequencer p.merge p.pending.items p.scheduler p.kept in
     let config = config_of p.config.partitions p.config.replicas g.S.Rows.points g.S.Rows.cold p.sequencer.delay in
     let reply = g.row.A-Reply.Denot in
-    let s = c.begin.new.self.scheduling in
-    let out = c.in_ok-_nothing_read._nothing_read in
+    let s = c.begin_in_place.new.self.scheduling in
     let sent = c.args.outbox.now.packets in
-    let did = subst (λ h. Did false (Ok out) (steps.begin h c.args.place p.scheduler.scheduling) p.scheduler.scheduling s) c.self.invariant.here c.in_ok-_nothing_read.ensures.did in
+    let here = site_of p.config.partitions x in
+    let begun_here = has_begun here c.args.place p.scheduler.scheduling s (subst (λ h. Did false (Ok tt) (steps.silently (steps.begin h c.args.place p.scheduler.scheduling)) p.scheduler.scheduling s) c.self.invariant.here c.in_ok-begin_in_place.ensures.did) in
+    let out = steps.serving here begun_here.0 in
+    let did = begun_here.2 in
     let read = subst (λ h. is_read_here h (turn_at p.scheduler.scheduling c.args.place) ≡ false) c.self.invariant.here (sym c.reads_here.ensures ∙ c.if-not-reads_here.true) in
     record {
-      did = subst (λ v. NodeDid {Reply = reply} (act_grows v.config (Begin c.args.place) v.state) (Ok tt) (acting.begin v.config c.args.place v.state) v (running config (record x { scheduler = s; due = left s c.begin.new.self.due })) sent sent) c.self.view_is
+      did = subst (λ v. NodeDid {Reply = reply} (act_grows v.config (Begin c.args.place) v.state) (Ok tt) (acting.begin v.config c.args.place v.state) v (running config (record x { scheduler = s; due = left s c.begin_in_place.new.self.due })) sent sent) c.self.view_is
           (subst (λ d. NodeDid {Reply = reply} (act_grows config (Begin c.args.place) x) (Ok tt) (acting.begin config c.args.place x) (running config x) (running config (record x { scheduler = s; due = d })) sent sent)
-          (sym (left_then p.scheduler.scheduling s p.scheduler.due c.begin.new.self.due c.in_ok-_nothing_read.ensures.due c.due_is_undone.ensures))
+          (sym (left_then p.scheduler.scheduling s p.scheduler.due c.begin_in_place.new.self.due c.in_ok-begin_in_place.ensures.due c.due_is_undone.ensures))
           (begun reply config x c.args.place sent out s did false read sent (sym (append-nil sent))));
     }
 
@@ -46,17 +42,18 @@ returns g c =
     let x = state_of p.id p.member p.sequencer p.merge p.pending.items p.scheduler p.kept in
     let config = config_of p.config.partitions p.config.replicas g.S.Rows.points g.S.Rows.cold p.sequencer.delay in
     let reply = g.row.A-Reply.Denot in
-    let s = c.begin-2.new.self.scheduling in
-    let out = c.in_ok-serving.serving in
+    let s = c.begin_in_place-2.new.self.scheduling in
     let sent = c.args.outbox.now.packets in
-    let all = c.post_reads.new.self.packets in
-    let did = subst (λ h. Did false (Ok out) (steps.begin h c.args.place p.scheduler.scheduling) p.scheduler.scheduling s) c.self.invariant.here c.in_ok-serving.ensures.did in
+    let all = c.post_served.new.outbox.packets in
+    let here = site_of p.config.partitions x in
+    let begun_here = has_begun here c.args.place p.scheduler.scheduling s (subst (λ h. Did false (Ok tt) (steps.silently (steps.begin h c.args.place p.scheduler.scheduling)) p.scheduler.scheduling s) c.self.invariant.here c.in_ok-begin_in_place-2.ensures.did) in
+    let out = steps.serving here begun_here.0 in
+    let did = begun_here.2 in
     let read = subst (λ h. is_read_here h (turn_at p.scheduler.scheduling c.args.place) ≡ true) c.self.invariant.here (sym c.reads_here.ensures ∙ c.if-not-reads_here.false) in
-    let view = c.serving.view_is in
     record {
-      did = subst (λ v. NodeDid {Reply = reply} (act_grows v.config (Begin c.args.place) v.state) (Ok tt) (acting.begin v.config c.args.place v.state) v (running config (record x { scheduler = s; due = left s c.begin-2.new.self.due })) sent all) c.self.view_is
+      did = subst (λ v. NodeDid {Reply = reply} (act_grows v.config (Begin c.args.place) v.state) (Ok tt) (acting.begin v.config c.args.place v.state) v (running config (record x { scheduler = s; due = left s c.begin_in_place-2.new.self.due })) sent all) c.self.view_is
           (subst (λ d. NodeDid {Reply = reply} (act_grows config (Begin c.args.place) x) (Ok tt) (acting.begin config c.args.place x) (running config x) (running config (record x { scheduler = s; due = d })) sent all)
-          (sym (left_then p.scheduler.scheduling s p.scheduler.due c.begin-2.new.self.due c.in_ok-serving.ensures.due c.due_is_undone.ensures))
+          (sym (left_then p.scheduler.scheduling s p.scheduler.due c.begin_in_place-2.new.self.due c.in_ok-begin_in_place-2.ensures.due c.due_is_undone.ensures))
           (begun reply config x c.args.place sent out s did true read all
-          (c.post_reads.ensures ∙ (λ i. c.in_ok-reserve.ensures.packets i ++ to_each p.id p.id.replica (Reads c.args.place (view i).rows) (view i).others))));
+          (c.post_served.ensures begun_here.0 begun_here.1 ∙ ap (λ ps. ps ++ to_each p.id p.id.replica (Reads c.args.place out.rows) out.others) c.in_ok-reserve.ensures.packets)));
     }

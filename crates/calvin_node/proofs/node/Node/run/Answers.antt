@@ -1,7 +1,6 @@
 use denote.Memory.{lone}
 use Rattle.std.proofs.Common.{◌≡◌, ◌<◌, ◌++◌, ◌∷◌, [], true, Ok, Err, refl, sym, ap, subst, ◌∙◌}
 use Rattle.std.proofs.lemmas.Result.{err_from_is_err_and}
-use Rattle.calvin_types.specs.declared.fault.Fault.TheVariants.{OutOfMemory}
 use Rattle.calvin_app.specs.declared.job.Job.{Job}
 use Rattle.calvin_app.specs.Serial.{answer_on}
 use Rattle.calvin_sched.specs.Keeping.{IsNotRun}

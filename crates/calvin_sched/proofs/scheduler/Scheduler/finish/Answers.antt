@@ -1,8 +1,7 @@
-use Rattle.std.proofs.Common.{rules, ◌≡◌, ◌<◌, Ok, refl, sym, ap, subst, inr, length, ◌∙◌, arith}
+use Rattle.std.proofs.Common.{rules, ◌≡◌, ◌<◌, sym, ap, subst, inr, length, ◌∙◌, arith}
 use Rattle.std.proofs.Math.Nat.{lt_of_not-le}
 use Rattle.std.proofs.lemmas.Bool.{false≢true}
 use Rattle.std.proofs.lemmas.Result.{err_from_is_err_and}
-use Rattle.calvin_types.specs.Participants.{site}
 use Rattle.calvin_sched.specs.Keeping.{scheduling_of, Finished}
 use Rattle.calvin_sched.specs.Scheduling.{local_writes}
 use Rattle.calvin_sched.specs.Progress.{left}

@@ -1,9 +1,8 @@
-use Rattle.std.proofs.Common.{◌≡◌, ◌<◌, Err, Ok, refl, sym, ap, subst, length, ◌∙◌, arith}
+use Rattle.std.proofs.Common.{◌≡◌, ◌<◌, sym, ap, subst, length, ◌∙◌, arith}
 use Rattle.std.proofs.Math.Nat.{lt_of_not-le}
 use Rattle.std.proofs.lemmas.Bool.{false≢true}
 use Rattle.std.proofs.lemmas.Result.{err_from_is_err_and}
 use Rattle.std.specs.Prelude.{IfErr}
-use Rattle.calvin_app.specs.Serial.{writes_on}
 use Rattle.calvin_sched.specs.Keeping.{scheduling_of, IsNotRun}
 use Rattle.calvin_sched.specs.Scheduling.{local_writes}
 use Rattle.calvin_sched.specs.Steps as steps
