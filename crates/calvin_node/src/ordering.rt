@@ -1,5 +1,5 @@
 //! The order of a node: the batches that are held are merged, epoch after epoch.
-ghost use Rattle.std.specs.Prelude.{◌≡◌, ◌+◌, ◌<◌, ◌≤◌, ◌++◌, [], length, IfErr, OnOk};
+ghost use Rattle.std.specs.Prelude.{◌≡◌, ◌⊎◌, ◌+◌, ◌<◌, ◌≤◌, ◌++◌, [], length, IfErr, OnOk};
 ghost use Rattle.std.specs.VecDeque.{deque_len, deque_capacity};
 ghost use Rattle.calvin_node.specs.Acting as acting;
 ghost use Rattle.calvin_node.specs.Growing.{act_grows};
@@ -28,28 +28,46 @@ impl<A: App, L: Locks + Drop, S: Rows<A::Row> + Drop> Node<A, L, S> {
         reserve(&mut self.pending, requests.len())?;
         self.scheduler.merged(epoch, &requests)?;
         self.merge.pass_epoch()?;
-        append(&mut self.pending, &requests);
+        append(&mut self.pending, requests);
         Ok(())
     }
 }
 
-/// Room for so many more requests, which takes no memory where there are none.
+/// Room for so many more requests behind others, which takes no memory where there are none.
 fn reserve<Args: Copy>(
     pending: &mut VecDeque<(Place, Txn<Args>)>,
     requests: usize,
 ) -> Result<(), Fault>
     ensures items { pending.new.items ≡ pending.old.items }
-    ensures ok { OnOk result (deque_len pending.new + requests ≤ deque_capacity pending.new) }
+    ensures ok { OnOk result ((pending.new.items ≡ []) ⊎ (deque_len pending.new + requests ≤ deque_capacity pending.new)) }
     ensures refused { IfErr result (λ fault. (fault ≡ Fault.OutOfMemory) × (0 < requests)) }
 {
-    if requests > 0 {
+    if requests > 0 && !pending.is_empty() {
         pending.reserve(requests)?;
     }
     Ok(())
 }
 
+/// These requests come after the others. There are no others, or there is room for them.
+fn append<Args: Copy>(
+    pending: &mut VecDeque<(Place, Txn<Args>)>,
+    requests: Vec<(Place, Txn<Args>)>,
+)
+    requires { (pending.old.items ≡ []) ⊎ (deque_len pending.old + length requests.items ≤ deque_capacity pending.old) }
+    ensures { pending.new.items ≡ pending.old.items ++ requests.items }
+{
+    if pending.is_empty() {
+        *pending = VecDeque::from_vec(requests);
+    } else {
+        push_all(pending, &requests);
+    }
+}
+
 /// These requests come after the others. There is room for them.
-fn append<Args: Copy>(pending: &mut VecDeque<(Place, Txn<Args>)>, requests: &[(Place, Txn<Args>)])
+fn push_all<Args: Copy>(
+    pending: &mut VecDeque<(Place, Txn<Args>)>,
+    requests: &[(Place, Txn<Args>)],
+)
     requires { deque_len pending.old + length requests.now ≤ deque_capacity pending.old }
     ensures { pending.new.items ≡ pending.old.items ++ requests.now }
 {

@@ -50,7 +50,7 @@ impl<A: App> Model for Turn<A> {
 
 impl<A: App> Turn<A> {
     /// A request that waits for its locks. Refused with `OutOfMemory` where there is no memory for it.
-    pub fn new(alloc: Global, place: Place, txn: &Txn<A::Args>) -> Result<Turn<A>, Fault>
+    pub(crate) fn new(alloc: Global, place: Place, txn: &Txn<A::Args>) -> Result<Turn<A>, Fault>
         ensures turn { IfOk result (λ k. k.turn ≡ new_turn txn.now) }
         ensures only { IsOkUnless result Fault.OutOfMemory }
     {
@@ -68,7 +68,7 @@ impl<A: App> Turn<A> {
     }
 
     /// Room for the rows of some more partitions.
-    pub fn reserve(&mut self, partitions: usize) -> Result<(), Fault>
+    pub(crate) fn reserve(&mut self, partitions: usize) -> Result<(), Fault>
         ensures ok { OnOk result (self.new ≡ record self.old { room = max partitions self.old.room }) }
         ensures err { OnErr result (self.new ≡ self.old) }
         ensures only { IsOkUnless result Fault.OutOfMemory }
@@ -113,20 +113,20 @@ impl<A: App> Turn<A> {
     }
 
     /// Whether rows of another partition are still to come.
-    pub fn awaits(&self, config: &Config, partition: u8, from: u8) -> bool
+    pub(crate) fn awaits(&self, config: &Config, partition: u8, from: u8) -> bool
         ensures { result ≡ awaits (site config.now.partitions partition) self.now.turn from }
     {
-        if self.phase == Phase::Done || !self.job.txn.is_active(config, partition) {
+        if from == partition || !self.job.txn.sets.reads.has_local(config, from) {
             return false;
         }
-        if from == partition || !self.job.txn.sets.reads.has_local(config, from) {
+        if self.phase == Phase::Done || !self.job.txn.is_active(config, partition) {
             return false;
         }
         !self.came.has(from)
     }
 
     /// Of how many partitions rows are still to come.
-    pub fn count_awaited(&self, config: &Config, partition: u8) -> usize
+    pub(crate) fn count_awaited(&self, config: &Config, partition: u8) -> usize
         ensures { result ≡ length (awaited (site config.now.partitions partition) self.now.turn) }
     {
         let mut count = 0;
@@ -150,7 +150,7 @@ impl<A: App> Turn<A> {
     }
 
     /// Whether all rows came that are read elsewhere.
-    pub fn is_collected(&self, config: &Config, partition: u8) -> bool
+    pub(crate) fn is_collected(&self, config: &Config, partition: u8) -> bool
         ensures { result ≡ is_collected (site config.now.partitions partition) self.now.turn }
     {
         let keys = self.reads();
@@ -177,7 +177,7 @@ impl<A: App> Turn<A> {
     }
 
     /// Whether all keys that it reads are stored here: then what was read here are the rows of all of them.
-    pub fn reads_here_alone(&self, config: &Config, partition: u8) -> bool
+    pub(crate) fn reads_here_alone(&self, config: &Config, partition: u8) -> bool
         ensures { IsTrue result → whole_view (site config.now.partitions partition) self.now.turn ≡ self.now.turn.served }
     {
         let _phase = self.phase;
@@ -198,7 +198,7 @@ impl<A: App> Turn<A> {
     }
 
     /// The rows of all keys that are read.
-    pub fn whole_view(&self, config: &Config, partition: u8) -> View<A::Row>
+    pub(crate) fn whole_view(&self, config: &Config, partition: u8) -> View<A::Row>
         ensures { result ≡ whole_view (site config.now.partitions partition) self.now.turn }
     {
         let keys = self.reads();
@@ -237,7 +237,7 @@ impl<A: App> Turn<A> {
     }
 
     /// Reads what is stored here. Where the request is passive here it is done, as others run it.
-    pub fn begin<S: Rows<A::Row>>(&mut self, config: &Config, partition: u8, rows: &S)
+    pub(crate) fn begin<S: Rows<A::Row>>(&mut self, config: &Config, partition: u8, rows: &S)
         ensures turn { self.new.turn ≡ begun_turn (site config.now.partitions partition) (S.store rows.now).map self.old.turn }
         ensures room { self.new.room ≡ self.old.room }
     {
@@ -260,7 +260,7 @@ impl<A: App> Turn<A> {
     }
 
     /// Keeps the rows that came from another partition. There is room for them.
-    pub fn receive(&mut self, from: u8, rows: &View<A::Row>)
+    pub(crate) fn receive(&mut self, from: u8, rows: &View<A::Row>)
         requires { 0 < self.old.room }
         ensures turn { self.new.turn ≡ with_rows from rows.now self.old.turn }
         ensures room { self.new.room ≡ self.old.room - 1 }
@@ -269,7 +269,7 @@ impl<A: App> Turn<A> {
     }
 
     /// It did all that it does here.
-    pub fn finish(&mut self)
+    pub(crate) fn finish(&mut self)
         ensures turn { self.new.turn ≡ record self.old.turn { phase = Done } }
         ensures room { self.new.room ≡ self.old.room }
     {

@@ -96,5 +96,5 @@ returns g c =
           (running config (state_of p.id p.member p.sequencer c.pass_epoch.new.self c.append.new.pending.items c.merged.new.self p.kept)) [] []) c.self.view_is
           (merging reply config p.id p.member p.sequencer p.merge p.pending.items p.scheduler p.kept full c.self.invariant.here c.in-Some.epoch c.in_ok-requests.requests.items is c.in-Some.ensures.next c.self.invariant.merged (act_grows config Merge x) c.pass_epoch.new.self c.append.new.pending.items c.merged.new.self
           (subst (λ l. Did {Out = Unit {0}} (list_any (λ f. has_local_key p.scheduler.here f.1) l) (Ok tt) (merge c.in-Some.epoch l p.scheduler) p.scheduler c.merged.new.self) c.deref.ensures.value c.in_ok-merged.ensures.did)
-          c.in_ok-pass_epoch.ensures.next (c.append.ensures ∙ (λ i. c.in_ok-reserve.ensures.items i ++ c.deref-2.ensures.value i)));
+          c.in_ok-pass_epoch.ensures.next (c.append.ensures ∙ ap (λ l. l ++ c.in_ok-requests.requests.items) c.in_ok-reserve.ensures.items));
     }

@@ -1,6 +1,6 @@
 use Rattle.std.proofs.Common.{◌≡◌, ◌+◌, ◌++◌, take}
 use Rattle.std.specs.VecDeque.{deque_len, deque_capacity}
-use Rattle.calvin_node.proofs.ordering.append.Given as goal
+use Rattle.calvin_node.proofs.ordering.push_all.Given as goal
 
 abbrev pub invariant-loop-i : goal.invariant-loop-i
 invariant-loop-i g l = record {
