@@ -49,10 +49,7 @@ fn reserve<Args: Copy>(
 }
 
 /// These requests come after the others. There are no others, or there is room for them.
-fn append<Args: Copy>(
-    pending: &mut VecDeque<(Place, Txn<Args>)>,
-    requests: Vec<(Place, Txn<Args>)>,
-)
+fn append<Args: Copy>(pending: &mut VecDeque<(Place, Txn<Args>)>, requests: Vec<(Place, Txn<Args>)>)
     requires { (pending.old.items ≡ []) ⊎ (deque_len pending.old + length requests.items ≤ deque_capacity pending.old) }
     ensures { pending.new.items ≡ pending.old.items ++ requests.items }
 {
@@ -64,10 +61,7 @@ fn append<Args: Copy>(
 }
 
 /// These requests come after the others. There is room for them.
-fn push_all<Args: Copy>(
-    pending: &mut VecDeque<(Place, Txn<Args>)>,
-    requests: &[(Place, Txn<Args>)],
-)
+fn push_all<Args: Copy>(pending: &mut VecDeque<(Place, Txn<Args>)>, requests: &[(Place, Txn<Args>)])
     requires { deque_len pending.old + length requests.now ≤ deque_capacity pending.old }
     ensures { pending.new.items ≡ pending.old.items ++ requests.now }
 {
