@@ -18,7 +18,7 @@ use Rattle.calvin_edge.specs.declared.reading.TheConstants.{MOST_BYTES}
 use Rattle.calvin_app.specs.Meaning.{Meaning}
 use Rattle.calvin_app.specs.Kv.{kv}
 use Rattle.calvin_stock.specs.Stock.{stock}
-use Rattle.calvin_node.specs.Running.{config_of}
+use Rattle.calvin_acts.specs.Running.{config_of}
 use Rattle.calvin_world.specs.declared.event.Outcome.{Outcome}
 use Rattle.calvin_world.specs.Worlds.{WorldState, opening}
 use Rattle.calvin_world.specs.Through.{through}

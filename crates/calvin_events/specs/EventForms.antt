@@ -10,8 +10,8 @@ use Rattle.calvin_types.specs.declared.limits.TheConstants.{MOST_EPOCHS}
 use Rattle.calvin_types.specs.declared.place.NodeId.{NodeId}
 use Rattle.calvin_types.specs.declared.place.Place.{Place}
 use Rattle.calvin_types.specs.declared.place.Slot.{Slot}
-use Rattle.calvin_node.specs.declared.act.Act.{Act}
-use Rattle.calvin_node.specs.declared.act.Act.TheVariants as act
+use Rattle.calvin_acts.specs.declared.act.Act.{Act}
+use Rattle.calvin_acts.specs.declared.act.Act.TheVariants as act
 use Rattle.calvin_world.specs.declared.event.Event.{Event}
 use Rattle.calvin_world.specs.declared.event.Event.TheVariants as world
 use Rattle.calvin_script.specs.declared.contents.Request.{Request}

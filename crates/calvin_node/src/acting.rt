@@ -1,11 +1,11 @@
 //! A node's own events, by their names.
 ghost use Rattle.std.specs.Prelude.{true};
-ghost use Rattle.calvin_node.specs.Acting as acting;
-ghost use Rattle.calvin_node.specs.Growing.{act_grows};
-ghost use Rattle.calvin_node.specs.Running.{NodeDid};
+ghost use Rattle.calvin_acts.specs.Acting as acting;
+ghost use Rattle.calvin_acts.specs.Growing.{act_grows};
+ghost use Rattle.calvin_acts.specs.Running.{NodeDid};
 
-use crate::act::Act;
 use crate::node::Node;
+use calvin_acts::Act;
 use calvin_app::{Answer, App};
 use calvin_lock::Locks;
 use calvin_packets::{Address, Content, Outbox, Packet};

@@ -1,6 +1,6 @@
 //! What a node does that its group may agree on its batches.
-ghost use Rattle.calvin_node.specs.Acting as acting;
-ghost use Rattle.calvin_node.specs.Running.{NodeDid};
+ghost use Rattle.calvin_acts.specs.Acting as acting;
+ghost use Rattle.calvin_acts.specs.Running.{NodeDid};
 ghost use Rattle.std.specs.Prelude.{true};
 
 use crate::node::Node;

@@ -2,9 +2,9 @@
 ghost use Rattle.std.specs.Prelude.{◌≡◌, ◌==◌, ◌&&◌, not, nat_lt, true};
 ghost use Rattle.calvin_sched.specs.Keeping.{awaits_at};
 ghost use Rattle.calvin_sched.specs.Scheduling.{turn_at};
-ghost use Rattle.calvin_node.specs.Acting as acting;
-ghost use Rattle.calvin_node.specs.NodeStates.{site_of};
-ghost use Rattle.calvin_node.specs.Running.{NodeDid};
+ghost use Rattle.calvin_acts.specs.Acting as acting;
+ghost use Rattle.calvin_acts.specs.NodeStates.{site_of};
+ghost use Rattle.calvin_acts.specs.Running.{NodeDid};
 
 use crate::node::Node;
 use calvin_app::App;

@@ -1,19 +1,15 @@
 //! What outlives a restart of a node.
-ghost use Rattle.std.specs.Prelude.{◌≡◌, ◌^◌, [], Ok, true, IfOk, IfErr, IsOkUnless};
-ghost use Rattle.std.specs.Option.{unwrap_or};
-ghost use Rattle.calvin_types.specs.Participants.{site};
-ghost use Rattle.calvin_order.specs.Merged.{end_of};
-ghost use Rattle.calvin_sched.specs.Scheduling.{opened};
-ghost use Rattle.calvin_node.specs.Acting as acting;
-ghost use Rattle.calvin_node.specs.Durables as durables;
-ghost use Rattle.calvin_node.specs.Durables.{durable_of};
-ghost use Rattle.calvin_node.specs.Running.{NodeDid, config_of, kept_epochs, kept_rows};
+ghost use Rattle.std.specs.Prelude.{◌≡◌, [], Ok, true, IfOk, IfErr};
+ghost use Rattle.calvin_acts.specs.Acting as acting;
+ghost use Rattle.calvin_acts.specs.Durables as durables;
+ghost use Rattle.calvin_acts.specs.Durables.{durable_of};
+ghost use Rattle.calvin_acts.specs.Running.{NodeDid, config_of};
 
 use crate::node::Node;
+use calvin_acts::{first_epoch, scheduler_from};
 use calvin_app::App;
 use calvin_lock::Locks;
 use calvin_order::{Merge, Sequencer};
-use calvin_sched::Scheduler;
 use calvin_store::{Rows, Snapshot};
 use calvin_synod::{Member, SynodRecord};
 use calvin_types::{Config, Fault, NodeId};
@@ -33,41 +29,14 @@ impl<A: App> Model for Durable<A> {
     ghost use Rattle.std.specs.Prelude.{None};
     ghost use Rattle.std.specs.Coded.{codes};
     ghost use Rattle.std.specs.FinMap.{code};
-    ghost use Rattle.calvin_node.specs.Durables as durables;
-    ghost use Rattle.calvin_node.specs.Running.{kept_epochs, kept_rows};
+    ghost use Rattle.calvin_acts.specs.Durables as durables;
+    ghost use Rattle.calvin_acts.specs.Running.{kept_epochs, kept_rows};
 
     ghost Value = { durables.Durable A.Args A.Row };
 
     ghost coded = { Prim.hlevel (codes, code) };
 
     ghost view = { λ d. record { acceptor = d.synod.acceptor; used = d.synod.used; kept_epochs = kept_epochs d.kept; kept_rows = kept_rows d.kept; woven_from = None } };
-}
-
-/// The epoch after those of the snapshot, if one is left below 2^64.
-fn first_epoch<Row>(kept: &Option<(u64, Snapshot<Row>)>) -> Option<u64>
-    ensures { unwrap_or result (2 ^ 64) ≡ kept_epochs kept.now }
-{
-    match kept {
-        Some((epoch, _)) => epoch.checked_add(1),
-        None => Some(0),
-    }
-}
-
-/// A scheduler that goes on from the snapshot, or begins on no rows where there is none. Refused with `OutOfMemory` where a
-/// growth was refused.
-fn scheduler_from<A: App, L: Locks + Drop, S: Rows<A::Row> + Drop>(
-    alloc: Global,
-    config: &Config,
-    partition: u8,
-    kept: &Option<(u64, Snapshot<A::Row>)>,
-) -> Result<Scheduler<A, L, S>, Fault>
-    ensures ok { IfOk result (λ s. s ≡ record { here = site config.now.partitions partition; scheduling = opened (end_of (kept_epochs kept.now)) (kept_rows kept.now); room = s.room; merged = kept_epochs kept.now; due = []; due_room = 0 }) }
-    ensures only { IsOkUnless result Fault.OutOfMemory }
-{
-    match kept {
-        Some((epoch, rows)) => Scheduler::from_snapshot(alloc, config, partition, rows, *epoch),
-        None => Ok(Scheduler::new(alloc, config, partition)),
-    }
 }
 
 impl<A: App, L: Locks + Drop, S: Rows<A::Row> + Drop> Node<A, L, S> {

@@ -7,11 +7,11 @@ ghost use Rattle.calvin_sched.specs.Keeping.{IsFirstReadyHere};
 ghost use Rattle.calvin_sched.specs.Scheduling.{turn_at, other_active};
 ghost use Rattle.calvin_sched.specs.Standing.{stands_at};
 ghost use Rattle.calvin_sched.specs.Steps as steps;
-ghost use Rattle.calvin_node.specs.Acting as acting;
-ghost use Rattle.calvin_node.specs.Growing.{act_grows};
-ghost use Rattle.calvin_node.specs.NodeStates.{site_of};
-ghost use Rattle.calvin_node.specs.Running.{NodeDid, NodeFinished};
-ghost use Rattle.calvin_node.specs.declared.act.Act.TheVariants as act;
+ghost use Rattle.calvin_acts.specs.Acting as acting;
+ghost use Rattle.calvin_acts.specs.Growing.{act_grows};
+ghost use Rattle.calvin_acts.specs.NodeStates.{site_of};
+ghost use Rattle.calvin_acts.specs.Running.{NodeDid, NodeFinished};
+ghost use Rattle.calvin_acts.specs.declared.act.Act.TheVariants as act;
 
 use crate::node::Node;
 use calvin_app::{App, Computed, Job};

@@ -5,13 +5,13 @@ ghost use Rattle.calvin_sched.specs.Scheduling.{turn_at};
 ghost use Rattle.calvin_sched.specs.Standing as standing;
 ghost use Rattle.calvin_sched.specs.Steps as steps;
 ghost use Rattle.calvin_packets.specs.declared.packet.Content.TheVariants.{Warm};
-ghost use Rattle.calvin_node.specs.Growing.{content_grows};
-ghost use Rattle.calvin_node.specs.Handling as handling;
-ghost use Rattle.calvin_node.specs.NodeStates.{site_of};
-ghost use Rattle.calvin_node.specs.Running.{NodeDid};
+ghost use Rattle.calvin_acts.specs.Growing.{content_grows};
+ghost use Rattle.calvin_acts.specs.Handling as handling;
+ghost use Rattle.calvin_acts.specs.NodeStates.{site_of};
+ghost use Rattle.calvin_acts.specs.Running.{NodeDid};
 
-use crate::deciding::{keep, make_room};
 use crate::node::Node;
+use calvin_acts::{keep, make_room};
 use calvin_app::{App, View};
 use calvin_lock::Locks;
 use calvin_packets::{Address, Content, Outbox, Packet};

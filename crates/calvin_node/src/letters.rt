@@ -6,12 +6,12 @@ ghost use Rattle.calvin_synod.specs.Cases.{message_grows};
 ghost use Rattle.calvin_synod.specs.Roles.{completes, knows};
 ghost use Rattle.calvin_synod.specs.declared.message.Message.TheVariants.{Accepted};
 ghost use Rattle.calvin_packets.specs.declared.packet.Content.TheVariants.{Synod};
-ghost use Rattle.calvin_node.specs.Handling as handling;
+ghost use Rattle.calvin_acts.specs.Handling as handling;
 ghost use Rattle.calvin_packets.specs.Letters.{given_by};
-ghost use Rattle.calvin_node.specs.Running.{NodeDid};
+ghost use Rattle.calvin_acts.specs.Running.{NodeDid};
 
-use crate::deciding::{keep, make_room};
 use crate::node::Node;
+use calvin_acts::{keep, make_room};
 use calvin_app::App;
 use calvin_lock::Locks;
 use calvin_packets::Outbox;

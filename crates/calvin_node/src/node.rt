@@ -3,8 +3,8 @@ ghost use Rattle.std.specs.Prelude.{◌≡◌, ◌^◌, length, MatchOption};
 ghost use Rattle.std.specs.Option.{option_copied};
 ghost use Rattle.std.specs.FinMap as map;
 ghost use Rattle.calvin_order.specs.Sequencing.{next_epoch};
-ghost use Rattle.calvin_node.specs.NodeStates.{new_node};
-ghost use Rattle.calvin_node.specs.Running.{config_of};
+ghost use Rattle.calvin_acts.specs.NodeStates.{new_node};
+ghost use Rattle.calvin_acts.specs.Running.{config_of};
 
 use calvin_app::App;
 use calvin_lock::Locks;
@@ -41,7 +41,7 @@ pub struct Node<A: App, L: Locks + Drop, S: Rows<A::Row> + Drop> {
 impl<A: App, L: Locks + Drop, S: Rows<A::Row> + Drop> Model for Node<A, L, S> {
     ghost use Rattle.std.specs.Coded.{codes};
     ghost use Rattle.std.specs.FinMap.{code};
-    ghost use Rattle.calvin_node.specs.Running.{Running, IsNode, config_of, state_of};
+    ghost use Rattle.calvin_acts.specs.Running.{Running, IsNode, config_of, state_of};
 
     ghost Value = { Running A.Args A.Row };
 

@@ -1,7 +1,7 @@
 //! Snapshots of a node's rows, points of consistency, and cold rows.
 ghost use Rattle.std.specs.Prelude.{◌+◌, ◌≤◌, [], false, true, MatchBool};
-ghost use Rattle.calvin_node.specs.Acting as acting;
-ghost use Rattle.calvin_node.specs.Running.{NodeDid};
+ghost use Rattle.calvin_acts.specs.Acting as acting;
+ghost use Rattle.calvin_acts.specs.Running.{NodeDid};
 
 use crate::node::Node;
 use calvin_app::App;

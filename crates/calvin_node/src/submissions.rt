@@ -1,7 +1,7 @@
 //! What reaches a node's sequencer, and the batches that it closes.
 ghost use Rattle.std.specs.Prelude.{[], true};
-ghost use Rattle.calvin_node.specs.Acting as acting;
-ghost use Rattle.calvin_node.specs.Running.{NodeDid};
+ghost use Rattle.calvin_acts.specs.Acting as acting;
+ghost use Rattle.calvin_acts.specs.Running.{NodeDid};
 
 use crate::node::Node;
 use calvin_app::App;

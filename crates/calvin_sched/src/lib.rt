@@ -1,7 +1,8 @@
 //! One partition's scheduler: requests are admitted in the global order, lock what they use, read, exchange what they read,
 //! run and write (Thomson et al. 2012, section 3.2). In code a request is admitted, begins, takes the rows of other
-//! partitions, is told as a job once all have come, and is finished with what was computed of it; it is
-//! told which epochs are merged, and tells at the end of which it stands. Its rows are taken as a snapshot, and it is opened on one.
+//! partitions, is told as a job once all have come, and is finished with what was computed of it, or is run where it stands.
+//! A scheduler is told which epochs are merged, and tells at the end of which it stands. Its rows are taken as a snapshot, and
+//! it is opened on one.
 #![tactic(auto)]
 
 mod came;

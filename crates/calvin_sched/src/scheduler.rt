@@ -125,7 +125,7 @@ impl<A: App, L: Locks + Drop, S: Rows<A::Row> + Drop> Scheduler<A, L, S> {
         is_past && !is_of_first(place, self.opened)
     }
 
-    /// The request that is admitted at a place.
+    /// What is kept of the request that is admitted at a place, if one is.
     pub fn turn(&self, place: Place) -> Option<&Turn<A>>
         ensures { MatchOption result (turn_at self.now.scheduling place ≡ None) (λ turn. turn_at self.now.scheduling place ≡ Some turn.now.turn) }
     {
@@ -203,7 +203,7 @@ impl<A: App, L: Locks + Drop, S: Rows<A::Row> + Drop> Scheduler<A, L, S> {
         }
     }
 
-    /// The same as `begin`, but that what it answers stays where it is: `turn` has it.
+    /// The same as `begin`, but what was read here stays where it is: `turn` tells it.
     pub fn begin_in_place(&mut self, place: Place) -> Result<(), Fault>
         ensures did { Did false result (steps.silently (steps.begin self.old.here place self.old.scheduling)) self.old.scheduling self.new.scheduling }
         ensures rest { self.new ≡ record self.old { scheduling = self.new.scheduling; due = self.new.due } }

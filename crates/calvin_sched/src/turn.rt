@@ -176,10 +176,11 @@ impl<A: App> Turn<A> {
         }
     }
 
-    /// Whether all keys that it reads are stored here: then what was read here are the rows of all of them.
+    /// Whether what was read here are the rows of all keys that it reads, as all of these are stored here.
     pub(crate) fn reads_here_alone(&self, config: &Config, partition: u8) -> bool
         ensures { IsTrue result → whole_view (site config.now.partitions partition) self.now.turn ≡ self.now.turn.served }
     {
+        // To read a field shows the prover that what was served are rows of its reads.
         let _phase = self.phase;
         self.are_reads_here(config, partition)
     }
@@ -248,7 +249,7 @@ impl<A: App> Turn<A> {
         self.phase = phase_after_reading(is_active);
     }
 
-    /// What it answers once it has begun.
+    /// The request, the rows that were read here, and the other partitions that run it.
     pub fn serving(&self, config: &Config, partition: u8) -> Serving<A>
         ensures { result ≡ serving (site config.now.partitions partition) self.now.turn }
     {

@@ -4,8 +4,8 @@ ghost use Rattle.std.specs.Result.{result_err};
 ghost use Rattle.std.specs.Io.KnownBytes.{Appends};
 ghost use Rattle.calvin_edge.specs.Answering.{HasText, HasBeginning, Refuses};
 ghost use Rattle.calvin_edge.specs.Devices.{LeavesAsTold};
-ghost use Rattle.calvin_script.specs.Scripts.{Contents, contents};
-ghost use Rattle.calvin_script.specs.Reading.{and_then, json, script_from, Reads};
+ghost use Rattle.calvin_script.specs.Scripts.{contents};
+ghost use Rattle.calvin_script.specs.Reading.{and_then, json, Reads};
 ghost use Rattle.calvin_script.specs.Documents.{data_of};
 ghost use Rattle.calvin_serial.specs.FirstSets.{NeedsFirst};
 ghost use Rattle.calvin_serial.specs.Engine.{text_of, text_for, text_in, serial_text, IsSerialFault};
@@ -18,7 +18,7 @@ use calvin_edge::{MOST_BYTES, Sink, Source, read_all, write_all};
 use calvin_script::{AppName, Document, Kept, Operation, Script};
 use calvin_stock::Stock;
 use calvin_text::{Printed, push_finished};
-use calvin_tokens::{OperationTokens, Scratch, usual_script};
+use calvin_tokens::{UsualScript, read_usual};
 use calvin_types::Fault;
 use std::alloc::Global;
 use std::mem;
@@ -87,51 +87,53 @@ where
     text_of(alloc, app, &script, sets)
 }
 
-/// The text for the bytes of a script for an application, where it is written as usual: it is read without its JSON as a
-/// value, and the bytes and what reading needed are given back before it is run. What is read stays in memory: who runs a script ends
-/// thereafter, and to give back many small pieces one by one takes up to a thirteenth of the whole run.
-fn usual_answer<A: Settles + Copy + Drop>(
+/// The text for a script of the usual form. It stays in memory: who runs a script ends thereafter, and to give back many
+/// small pieces one by one takes up to a thirteenth of the whole run.
+fn usual_text<A: Settles + Copy + Drop>(
     alloc: Global,
     app: A,
-    bytes: &mut Vec<u8>,
-    scratch: &mut Scratch,
+    script: Script<Kept<A::Args>>,
     sets: UndeclaredSets,
-) -> Option<Result<Vec<u8>, Fault>>
+) -> Result<Vec<u8>, Fault>
 where
-    A::Args: OperationTokens,
+    A::Args: Operation,
     A::Reply: Printed,
     requires { NeedsFirst A.Args.grammar A.meaning }
-    ensures text { IfSome result (λ text. (script : Contents A.Args) × (script_from A.Args.grammar bytes.old.items ≡ Ok script)
-        × Reads (λ t. t.items) text (text_of A.meaning A.Reply.printed sets script)) }
-    ensures kept { result ≡ None → bytes.new ≡ bytes.old }
+    ensures { Reads (λ text. text.items) result (text_of A.meaning A.Reply.printed sets (contents script)) }
 {
-    let script = usual_script(alloc, bytes, scratch)?;
-    *bytes = Vec::new(alloc);
-    *scratch = Scratch::new(alloc);
     let text = text_of(alloc, app, &script, sets);
     mem::forget(script);
-    Some(text)
+    text
 }
 
-/// The text for the bytes of a script, for the application that it names. A script of another application than the one
-/// that is tried ends its reading at the application's name or at the first operation.
-fn answer(alloc: Global, mut bytes: Vec<u8>, sets: UndeclaredSets) -> Result<Vec<u8>, Fault>
+/// The text for the bytes of a script, for the application that it names, where it isn't written as usual.
+fn general_answer(alloc: Global, bytes: Vec<u8>, sets: UndeclaredSets) -> Result<Vec<u8>, Fault>
     ensures { Reads (λ text. text.items) result (and_then (json bytes.items) (text_in sets)) }
 {
-    let mut scratch = Scratch::new(alloc);
-    if let Some(text) = usual_answer(alloc, Kv, &mut bytes, &mut scratch, sets) {
-        return text;
-    }
-    if let Some(text) = usual_answer(alloc, Stock, &mut bytes, &mut scratch, sets) {
-        return text;
-    }
-    drop(scratch);
     let document = Document::read(alloc, &bytes)?;
     drop(bytes);
     match document.app() {
         Some(AppName::Kv) => answer_for(alloc, Kv, document, sets),
         Some(AppName::Stock) => answer_for(alloc, Stock, document, sets),
         None => Err(Fault::BadScript),
+    }
+}
+
+/// The text for the bytes of a script, for the application that it names. Where the script is written as usual it is read
+/// without its JSON as a value, and the bytes are given back before it is run.
+fn answer(alloc: Global, bytes: Vec<u8>, sets: UndeclaredSets) -> Result<Vec<u8>, Fault>
+    ensures { Reads (λ text. text.items) result (and_then (json bytes.items) (text_in sets)) }
+{
+    match read_usual(alloc, &bytes) {
+        Some(UsualScript::Kv(script)) => {
+            drop(bytes);
+            usual_text(alloc, Kv, script, sets)
+        }
+        Some(UsualScript::Stock(script)) => {
+            drop(bytes);
+            usual_text(alloc, Stock, script, sets)
+        }
+        None => general_answer(alloc, bytes, sets),
     }
 }
 

@@ -21,12 +21,12 @@ use Rattle.calvin_order.proofs.NextEpochs.{next_unused}
 use Rattle.calvin_packets.specs.declared.packet.Packet.{Packet}
 use Rattle.calvin_order.specs.Sequencing.{Sequencing, HeldBack, ripe, load, is_decided, closing, ticked, ripened, next_epoch, first_not, is_used}
 use Rattle.calvin_order.specs.Configs.{Config}
-use Rattle.calvin_node.specs.NodeStates.{NodeState, with_sequencer, new_node}
-use Rattle.calvin_node.specs.Handling.{NodeDeed}
-use Rattle.calvin_node.specs.Running.{settled}
-use Rattle.calvin_node.specs.Acting as acting
-use Rattle.calvin_node.specs.declared.act.Act.{Act}
-use Rattle.calvin_node.specs.declared.act.Act.TheVariants.{Submit, Close}
+use Rattle.calvin_acts.specs.NodeStates.{NodeState, with_sequencer, new_node}
+use Rattle.calvin_acts.specs.Handling.{NodeDeed}
+use Rattle.calvin_acts.specs.Running.{settled}
+use Rattle.calvin_acts.specs.Acting as acting
+use Rattle.calvin_acts.specs.declared.act.Act.{Act}
+use Rattle.calvin_acts.specs.declared.act.Act.TheVariants.{Submit, Close}
 use Rattle.calvin_script.specs.declared.contents.Request.{Request}
 use Rattle.calvin_script.specs.Scripts.{Listed, requests_of}
 use Rattle.calvin_world.proofs.Indexes.{same_index}

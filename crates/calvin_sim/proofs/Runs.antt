@@ -12,7 +12,7 @@ use Rattle.calvin_script.specs.StockOperations.{stock_grammar}
 use Rattle.calvin_script.proofs.Apps.{kv_named, stock_named}
 use Rattle.calvin_serial.proofs.Usual.{usual_answer}
 use Rattle.calvin_app.specs.Meaning.{Meaning}
-use Rattle.calvin_node.specs.Running.{config_of}
+use Rattle.calvin_acts.specs.Running.{config_of}
 use Rattle.calvin_world.specs.Worlds.{WorldState}
 use Rattle.calvin_sim.specs.Engine.{fitting, fitting_by, fitting_in, IsRun}
 use Rattle.calvin_sim.specs.Simulations.{IsSimulation}

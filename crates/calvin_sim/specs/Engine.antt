@@ -13,7 +13,7 @@ use Rattle.calvin_edge.specs.declared.reading.TheConstants.{MOST_BYTES}
 use Rattle.calvin_app.specs.Meaning.{Meaning}
 use Rattle.calvin_app.specs.Kv.{kv}
 use Rattle.calvin_stock.specs.Stock.{stock}
-use Rattle.calvin_node.specs.Running.{config_of}
+use Rattle.calvin_acts.specs.Running.{config_of}
 use Rattle.calvin_script.specs.Scripts.{Contents}
 use Rattle.calvin_script.specs.declared.reading.AppName.{AppName}
 use Rattle.calvin_script.specs.declared.reading.AppName.TheVariants as app

@@ -20,7 +20,7 @@ use Rattle.calvin_app.specs.Meaning.{Meaning}
 use Rattle.calvin_order.specs.Configs.{Config}
 use Rattle.calvin_script.specs.declared.contents.Request.{Request}
 use Rattle.calvin_script.specs.Scripts.{Contents, Listed, requests_of, are_taken}
-use Rattle.calvin_node.specs.declared.act.Act.TheVariants.{Submit, SubmitCold, Close}
+use Rattle.calvin_acts.specs.declared.act.Act.TheVariants.{Submit, SubmitCold, Close}
 use Rattle.calvin_world.specs.declared.event.Event.{Event}
 use Rattle.calvin_world.specs.declared.event.Event.TheVariants.{At}
 use Rattle.calvin_world.specs.declared.event.Outcome.{Outcome}

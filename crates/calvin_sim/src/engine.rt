@@ -4,7 +4,7 @@ ghost use Rattle.std.specs.Result.{result_err};
 ghost use Rattle.std.specs.Io.KnownBytes.{Appends};
 ghost use Rattle.calvin_edge.specs.Answering.{Refuses};
 ghost use Rattle.calvin_edge.specs.Devices.{LeavesAsTold};
-ghost use Rattle.calvin_node.specs.Running.{config_of};
+ghost use Rattle.calvin_acts.specs.Running.{config_of};
 ghost use Rattle.calvin_script.specs.Documents.{data_of};
 ghost use Rattle.calvin_script.specs.Reading.{and_then, json, script_from, Reads};
 ghost use Rattle.calvin_script.specs.Scripts.{Contents, contents};

@@ -1,6 +1,6 @@
 //! A script is run in a world.
 ghost use Rattle.std.specs.Prelude.{◌≡◌, false, true, IfOk, IsOkUnless};
-ghost use Rattle.calvin_node.specs.Running.{config_of};
+ghost use Rattle.calvin_acts.specs.Running.{config_of};
 ghost use Rattle.calvin_script.specs.Scripts.{contents};
 ghost use Rattle.calvin_sim.specs.Simulations.{AllTaken, fits, IsSimulation};
 

@@ -1,7 +1,7 @@
 //! What is told of a simulation.
 ghost use Rattle.std.specs.Prelude.{◌≡◌, ◌++◌, false, true, IfOk, IsOkUnless};
 ghost use Rattle.std.specs.FinMap.{entries};
-ghost use Rattle.calvin_node.specs.Running.{config_of};
+ghost use Rattle.calvin_acts.specs.Running.{config_of};
 ghost use Rattle.calvin_script.specs.Scripts.{contents};
 ghost use Rattle.calvin_text.specs.Texts.{finished_at};
 ghost use Rattle.calvin_report.specs.declared.replies.Epochs.TheVariants.{UpTo};

@@ -5,7 +5,9 @@ use Rattle.std.proofs.lemmas.Bool.{or_parts, not-true}
 use Rattle.std.proofs.lemmas.List.{drop_all, length-take, length-map, map-append}
 use Rattle.std.proofs.lemmas.Option.{slice_get_within}
 use Rattle.calvin_types.specs.declared.key.Key.{Key}
-use Rattle.calvin_types.specs.Keys.{has, insert_key, insert_all}
+use Rattle.std.specs.declared.cmp.Ordering.{Ordering}
+use Rattle.std.specs.declared.cmp.Ordering.TheVariants.{Less, Equal, Greater}
+use Rattle.calvin_types.specs.Keys.{has, key_cmp, by_order, insert_key, insert_all}
 use Rattle.calvin_types.specs.Exact.{first, second}
 use Rattle.calvin_types.specs.SameKeysLaws.{equal_keys_is_same_key}
 use Rattle.calvin_types.proofs.Fews.{drop_at, take_at}
@@ -26,14 +28,43 @@ insert_all-append : (xs ys ks : List Key) → insert_all (xs ++ ys) ks ≡ inser
 insert_all-append [] ys ks = refl
 insert_all-append (x ∷ xs) ys ks = insert_all-append xs ys (insert_key x ks)
 
+-- a key comes before the first of some
+abbrev IsFirst : Key → List Key → Type 0
+IsFirst c [] = Unit {0}
+IsFirst c (k ∷ ks) = key_cmp c k ≡ Less
+
+first_inserted : (c q : Key) (ks : List Key) → key_cmp c q ≡ Less → IsFirst c ks → IsFirst c (insert_key q ks)
+first_inserted c q [] less first = less
+first_inserted c q (k ∷ ks) less first = go (key_cmp q k)
+  where
+    go : (o : Ordering) → IsFirst c (by_order o (q ∷ k ∷ ks) (k ∷ ks) (k ∷ insert_key q ks))
+    go Less = less
+    go Equal = first
+    go Greater = first
+
+first_put : (c : Key) (ks : List Key) → IsFirst c ks → insert_key c ks ≡ c ∷ ks
+first_put c [] first = refl
+first_put c (k ∷ ks) first = ap (λ o. by_order o (c ∷ k ∷ ks) (k ∷ ks) (k ∷ insert_key c ks)) first
+
+first_of_items : (u : ℕ) (lines : List Line) (ks : List Key) → IsFirst (customer_key u) ks → IsFirst (customer_key u) (insert_all (item_keys lines) ks)
+first_of_items u [] ks first = first
+first_of_items u (l ∷ ls) ks first = first_of_items u ls (insert_key (item_key l.item) ks) (first_inserted (customer_key u) (item_key l.item) ks refl first)
+
+-- keys of items that are put in behind the customer's
+pub behind_customer : (u : ℕ) (lines : List Line) (ks : List Key) → insert_all (item_keys lines) (customer_key u ∷ ks) ≡ customer_key u ∷ insert_all (item_keys lines) ks
+behind_customer u [] ks = refl
+behind_customer u (l ∷ ls) ks = behind_customer u ls (insert_key (item_key l.item) ks)
+
 -- what is left of the lines from a place on
 module _ (lines : List Line) (i : ℕ) where
   pub keys_at : (l : Line) (ks : List Key) → slice_get lines i ≡ Some l → insert_all (item_keys (drop i lines)) ks ≡ insert_all (item_keys (drop (i + 1) lines)) (insert_key (item_key l.item) ks)
   keys_at l ks here = ap (λ xs. insert_all (item_keys xs) ks) (drop_at lines i l here)
 
-  pub keys_end : (u o : ℕ) (ks : List Key) → length lines ≤ i → insert_all (item_keys (drop i lines)) ks ≡ insert_all (item_keys lines) [] → insert_key (customer_key u) (insert_key (order_key o) ks) ≡ insert_all (item_keys lines ++ order_key o ∷ customer_key u ∷ []) []
+  pub keys_end : (u o : ℕ) (ks : List Key) → length lines ≤ i → insert_all (item_keys (drop i lines)) ks ≡ customer_key u ∷ insert_all (item_keys lines) [] → insert_key (order_key o) ks ≡ insert_all (item_keys lines ++ order_key o ∷ customer_key u ∷ []) []
   keys_end u o ks past so =
-      ap (λ js. insert_key (customer_key u) (insert_key (order_key o) js)) (sym (ap (λ xs. insert_all (item_keys xs) ks) (drop_all i lines past)) ∙ so)
+      let items = insert_all (item_keys lines) [] in
+      ap (λ js. insert_key (order_key o) js) (sym (ap (λ xs. insert_all (item_keys xs) ks) (drop_all i lines past)) ∙ so)
+      ∙ sym (first_put (customer_key u) (insert_key (order_key o) items) (first_inserted (customer_key u) (order_key o) items refl (first_of_items u lines [] tt)))
       ∙ sym (insert_all-append (item_keys lines) (order_key o ∷ customer_key u ∷ []) [])
 
   pub fault_at : (rows : Rows StockRow) (l : Line) (fault : Option StockReply) → slice_get lines i ≡ Some l → fault ≡ line_fault l (item_at rows l.item) → first_fault (drop i lines) rows ≡ option_or fault (first_fault (drop (i + 1) lines) rows)

@@ -76,16 +76,17 @@ pub(crate) fn last_order(customer: Option<Customer>) -> Option<u64>
     }
 }
 
-/// Adds the keys of an order, its items, itself and its customer, to a set that has none.
+/// Adds the keys of an order, its items, itself and its customer, to a set that has none. They come by their tables, so
+/// that only keys of items are moved for another one.
 pub(crate) fn add_order_keys(order: &Order, keys: &mut KeySet)
     requires { keys.old ≡ [] }
     ensures { keys.new ≡ order_keys order.now }
 {
+    keys.grow(customer_key(order.customer));
     for i in 0..order.lines.len() {
         keys.grow(item_key(order.lines.at(i).item));
     }
     keys.grow(order_key(order.number));
-    keys.grow(customer_key(order.customer));
 }
 
 /// Adds the keys of a settlement, the customer and the last order where there is one, to a set that has none.

@@ -1,3 +1,4 @@
 pub mod Names
 pub mod Spelled
 pub mod Gathered
+pub mod Usual

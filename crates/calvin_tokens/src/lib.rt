@@ -13,9 +13,11 @@ mod request;
 mod script;
 mod stock;
 mod tokens;
+mod usual;
 
 pub use json::Scratch;
 pub use keys::{KeyTokens, read_key_set};
 pub use operation::OperationTokens;
 pub use script::{script_from, usual_script};
 pub use tokens::{closes_array, is_same, number, opens_array, string_at};
+pub use usual::{UsualScript, read_usual};

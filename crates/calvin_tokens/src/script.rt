@@ -70,21 +70,18 @@ fn read_script<Op: OperationTokens>(
     Script::new(partitions, epochs)
 }
 
-/// The script that bytes are, for an application, where they are written as usual: then it is read without a value of
-/// the whole JSON. There is no answer for other bytes, scripts or not, nor where memory runs out. What reading needs of
-/// memory is lent, so that who tries one application after another needs it once.
+/// The script that a text is, for an application, where it is written as usual: then it is read without a value of the
+/// whole JSON. There is no answer for another text, script or not, nor where memory runs out. What reading needs of memory
+/// is lent, so that who tries one application after another needs it once.
 ///
 /// As usual are members in any order, numbers in digits alone, and no set of declared keys given twice.
-pub fn usual_script<Op: OperationTokens>(
+pub(crate) fn script_in_text<Op: OperationTokens>(
     alloc: Global,
-    bytes: &[u8],
+    text: &str,
     scratch: &mut Scratch,
 ) -> Option<Script<Kept<Op>>>
-    ensures { IfSome result (λ s. script_from Op.grammar bytes.now ≡ Ok (contents s)) }
+    ensures { IfSome result (λ s. script_from Op.grammar text.now ≡ Ok (contents s)) }
 {
-    let Ok(text) = simdutf8::compat::from_utf8(bytes) else {
-        return None;
-    };
     let Ok(mut reader) = Reader::new(text, scratch) else {
         return None;
     };
@@ -93,6 +90,26 @@ pub fn usual_script<Op: OperationTokens>(
         return None;
     }
     Some(script)
+}
+
+/// The script that bytes are, for an application, where they are a text that is written as usual. There is no answer for
+/// other bytes, scripts or not, nor where memory runs out.
+pub fn usual_script<Op: OperationTokens>(
+    alloc: Global,
+    bytes: &[u8],
+    scratch: &mut Scratch,
+) -> Option<Script<Kept<Op>>>
+    ensures { IfSome result (λ s. script_from Op.grammar bytes.now ≡ Ok (contents s)) }
+{
+    let text = text_of(bytes)?;
+    script_in_text(alloc, text, scratch)
+}
+
+/// The text that bytes are, if they are one.
+pub(crate) fn text_of(bytes: &[u8]) -> Option<&str>
+    ensures { IfSome result (λ text. text.now ≡ bytes.now) }
+{
+    simdutf8::compat::from_utf8(bytes).ok()
 }
 
 /// The script that bytes are, for an application. Refused with `BadJson` where the bytes aren't JSON, with `BadScript`

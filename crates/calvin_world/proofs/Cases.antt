@@ -46,13 +46,13 @@ use Rattle.calvin_packets.specs.declared.packet.Packet.{Packet}
 use Rattle.calvin_packets.specs.declared.packet.Address.TheVariants.{AtNode, AtClient}
 use Rattle.calvin_packets.specs.declared.packet.Content.TheVariants.{Synod, Decided, AskBatch, Reads, AskReads, Warm, Replies}
 use Rattle.calvin_packets.specs.Packets.{is_for, to_each, synod_packets, participants, warm_packets, telling}
-use Rattle.calvin_node.specs.NodeStates.{NodeState, own_slot, with_synod, with_sequencer, with_scheduler, holding, restarted}
-use Rattle.calvin_node.specs.Handling as handling
-use Rattle.calvin_node.specs.Handling.{NodeDeed, counted}
-use Rattle.calvin_node.specs.Acting as node
-use Rattle.calvin_node.specs.declared.act.Act.{Act}
-use Rattle.calvin_node.specs.declared.act.Act.TheVariants.{Submit, SubmitCold, Cool, Close, Merge, Lock, Restart, Propose, Snapshot, Mark, Begin, Finish, AskForReads, AskForBatch}
-use Rattle.calvin_node.specs.Acting.{submitted, deed_of}
+use Rattle.calvin_acts.specs.NodeStates.{NodeState, own_slot, with_synod, with_sequencer, with_scheduler, holding, restarted}
+use Rattle.calvin_acts.specs.Handling as handling
+use Rattle.calvin_acts.specs.Handling.{NodeDeed, counted}
+use Rattle.calvin_acts.specs.Acting as node
+use Rattle.calvin_acts.specs.declared.act.Act.{Act}
+use Rattle.calvin_acts.specs.declared.act.Act.TheVariants.{Submit, SubmitCold, Cool, Close, Merge, Lock, Restart, Propose, Snapshot, Mark, Begin, Finish, AskForReads, AskForBatch}
+use Rattle.calvin_acts.specs.Acting.{submitted, deed_of}
 use Rattle.calvin_world.specs.Worlds.{WorldState, index_of}
 use Rattle.calvin_world.specs.Promises.{IsNode, held_by, DoneAtEnd, StandsAtEnd}
 use Rattle.calvin_bench.specs.Turns.{site_of, HasTurn, Begins, Receives, Finishes}

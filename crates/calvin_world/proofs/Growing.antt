@@ -21,12 +21,12 @@ use Rattle.calvin_order.specs.Merged.{Batch}
 use Rattle.calvin_sched.specs.Scheduling.{Turn, Scheduling, reads_here, other_active}
 use Rattle.calvin_sched.specs.Steps.{begun_turn}
 use Rattle.calvin_bench.specs.Turns.{site_of}
-use Rattle.calvin_node.specs.declared.act.Act.{Act}
-use Rattle.calvin_node.specs.declared.act.Act.TheVariants.{Submit, SubmitCold, Cool, Close, Merge, Lock, Restart, Propose, Snapshot, Mark, Begin, Finish, AskForReads, AskForBatch}
+use Rattle.calvin_acts.specs.declared.act.Act.{Act}
+use Rattle.calvin_acts.specs.declared.act.Act.TheVariants.{Submit, SubmitCold, Cool, Close, Merge, Lock, Restart, Propose, Snapshot, Mark, Begin, Finish, AskForReads, AskForBatch}
 use Rattle.calvin_synod.specs.Cases.{message_grows}
 use Rattle.calvin_sched.specs.Scheduling.{is_read_here}
-use Rattle.calvin_node.specs.Growing.{act_grows}
-use Rattle.calvin_node.specs.NodeStates.{NodeState}
+use Rattle.calvin_acts.specs.Growing.{act_grows}
+use Rattle.calvin_acts.specs.NodeStates.{NodeState}
 use Rattle.calvin_packets.specs.declared.packet.Packet.{Packet}
 use Rattle.calvin_packets.specs.declared.packet.Content.TheVariants.{Synod, Reads}
 use Rattle.calvin_packets.specs.Packets.{to_each, synod_packets, telling}

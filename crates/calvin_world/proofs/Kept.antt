@@ -5,7 +5,7 @@ use Rattle.std.specs.List.{Contains, range_with_len}
 use Rattle.std.specs.FinMap.{get}
 use Rattle.std.proofs.lemmas.Bool.{cases_eq}
 use Rattle.std.proofs.lemmas.List.Elements.{Contains-append_left, Contains-append_right, Contains-append_cases}
-use Rattle.calvin_node.specs.NodeStates.{NodeState}
+use Rattle.calvin_acts.specs.NodeStates.{NodeState}
 use Rattle.calvin_packets.specs.declared.packet.Content.{Content}
 use Rattle.calvin_packets.specs.declared.packet.Packet.{Packet}
 use Rattle.calvin_packets.specs.declared.packet.Address.TheVariants.{AtNode}

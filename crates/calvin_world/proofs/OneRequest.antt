@@ -21,7 +21,7 @@ use Rattle.calvin_sched.specs.Scheduling.{Turn, Scheduling, new_turn, with_turn,
 use Rattle.calvin_sched.specs.Steps as sched
 use Rattle.calvin_packets.specs.declared.packet.Address.TheVariants.{AtClient}
 use Rattle.calvin_packets.specs.declared.packet.Content.TheVariants.{Replies}
-use Rattle.calvin_node.specs.Acting as node
+use Rattle.calvin_acts.specs.Acting as node
 use Rattle.calvin_world.specs.WorkedCases.{alone_with, own_id, putting}
 use Rattle.calvin_world.proofs.OneSlot.{Node, Sent, KvDeed}
 

@@ -29,9 +29,9 @@ use Rattle.calvin_packets.specs.declared.packet.Packet.{Packet}
 use Rattle.calvin_packets.specs.declared.packet.Address.TheVariants.{AtNode}
 use Rattle.calvin_packets.specs.declared.packet.Content.{Content}
 use Rattle.calvin_packets.specs.declared.packet.Content.TheVariants.{Synod}
-use Rattle.calvin_node.specs.NodeStates.{NodeState, holding}
-use Rattle.calvin_node.specs.Handling.{NodeDeed, handle, by_synod, on_vote}
-use Rattle.calvin_node.specs.Acting as node
+use Rattle.calvin_acts.specs.NodeStates.{NodeState, holding}
+use Rattle.calvin_acts.specs.Handling.{NodeDeed, handle, by_synod, on_vote}
+use Rattle.calvin_acts.specs.Acting as node
 use Rattle.calvin_app.specs.Kv.{kv}
 use Rattle.calvin_world.specs.declared.event.Outcome.TheVariants.{Done}
 use Rattle.calvin_world.specs.WorkedCases.{alone_with, own_id, deciding}

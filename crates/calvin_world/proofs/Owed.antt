@@ -6,8 +6,8 @@ use Rattle.std.specs.FinMap.{get, insert, get-empty}
 use Rattle.std.proofs.lemmas.List.Elements.{Contains-append_cases}
 use Rattle.calvin_app.specs.Meaning.{Meaning}
 use Rattle.calvin_bench.specs.Turns.{site_of}
-use Rattle.calvin_node.specs.Handling.{counted}
-use Rattle.calvin_node.specs.NodeStates.{NodeState, own_slot, holding, with_synod, with_scheduler, restarted}
+use Rattle.calvin_acts.specs.Handling.{counted}
+use Rattle.calvin_acts.specs.NodeStates.{NodeState, own_slot, holding, with_synod, with_scheduler, restarted}
 use Rattle.calvin_packets.specs.declared.packet.Content.{Content}
 use Rattle.calvin_packets.specs.declared.packet.Packet.{Packet}
 use Rattle.calvin_packets.specs.declared.packet.Address.TheVariants.{AtNode}
@@ -26,8 +26,8 @@ use Rattle.calvin_types.specs.declared.txn.Txn.{Txn}
 use Rattle.calvin_types.specs.declared.place.Slot.{Slot}
 use Rattle.calvin_world.proofs.Cases.{Handles, Acts, restarted_synod}
 use Rattle.calvin_world.specs.Promises.{IsNode, Chosen}
-use Rattle.calvin_node.specs.declared.act.Act.{Act}
-use Rattle.calvin_node.specs.declared.act.Act.TheVariants.{Submit, SubmitCold, Cool, Close, Merge, Lock, Restart, Propose, Snapshot, Mark, Begin, Finish, AskForReads, AskForBatch}
+use Rattle.calvin_acts.specs.declared.act.Act.{Act}
+use Rattle.calvin_acts.specs.declared.act.Act.TheVariants.{Submit, SubmitCold, Cool, Close, Merge, Lock, Restart, Propose, Snapshot, Mark, Begin, Finish, AskForReads, AskForBatch}
 use Rattle.calvin_world.specs.Worlds.{WorldState, index_of}
 use Rattle.calvin_synod.proofs.Replicas.{HoldsAt, holds_at}
 use Rattle.calvin_synod.proofs.Core.{Said}

@@ -35,11 +35,11 @@ use Rattle.calvin_packets.specs.declared.packet.Address.TheVariants.{AtNode, AtC
 use Rattle.calvin_packets.specs.declared.packet.Content.TheVariants.{Synod, Warm, Replies}
 use Rattle.calvin_packets.specs.declared.packet.Content.{Content}
 use Rattle.calvin_packets.specs.Packets.{participants}
-use Rattle.calvin_node.specs.NodeStates.{NodeState, new_node}
-use Rattle.calvin_node.specs.Handling.{NodeDeed, handle}
-use Rattle.calvin_node.specs.declared.act.Act.{Act}
-use Rattle.calvin_node.specs.declared.act.Act.TheVariants.{Submit, SubmitCold, Cool, Close, Merge, Lock, Restart, Propose, Snapshot, Mark, Begin, Finish, AskForReads, AskForBatch}
-use Rattle.calvin_node.specs.Acting.{deed_of, submitted}
+use Rattle.calvin_acts.specs.NodeStates.{NodeState, new_node}
+use Rattle.calvin_acts.specs.Handling.{NodeDeed, handle}
+use Rattle.calvin_acts.specs.declared.act.Act.{Act}
+use Rattle.calvin_acts.specs.declared.act.Act.TheVariants.{Submit, SubmitCold, Cool, Close, Merge, Lock, Restart, Propose, Snapshot, Mark, Begin, Finish, AskForReads, AskForBatch}
+use Rattle.calvin_acts.specs.Acting.{deed_of, submitted}
 use Rattle.calvin_world.specs.declared.event.Event.{Event}
 use Rattle.calvin_world.specs.declared.event.Outcome.{Outcome}
 use Rattle.calvin_world.specs.declared.event.Event.TheVariants.{At, Deliver}

@@ -22,7 +22,7 @@ use Rattle.calvin_app.specs.declared.answer.Answer.{Answer}
 use Rattle.calvin_app.specs.Meaning.{Meaning}
 use Rattle.calvin_order.specs.Configs.{order}
 use Rattle.calvin_order.specs.Merged.{Batch, Assignment}
-use Rattle.calvin_node.specs.NodeStates.{NodeState}
+use Rattle.calvin_acts.specs.NodeStates.{NodeState}
 use Rattle.calvin_packets.specs.declared.packet.Packet.{Packet}
 use Rattle.calvin_packets.specs.declared.packet.Content.TheVariants.{Replies}
 use Rattle.calvin_world.specs.declared.event.Event.{Event}

@@ -6,7 +6,7 @@ use Rattle.std.specs.Prelude.{◌≡◌, ℕ, ◌*◌, List, map, length, Some, 
 use Rattle.calvin_app.specs.Meaning.{Meaning}
 use Rattle.calvin_order.specs.Configs.{Config}
 use Rattle.calvin_packets.specs.declared.packet.Packet.{Packet}
-use Rattle.calvin_node.specs.Running.{Running}
+use Rattle.calvin_acts.specs.Running.{Running}
 use Rattle.calvin_world.specs.declared.event.Event.{Event}
 use Rattle.calvin_world.specs.declared.event.Outcome.{Outcome}
 use Rattle.calvin_world.specs.Worlds.{WorldState, opening}

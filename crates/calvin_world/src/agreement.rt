@@ -12,7 +12,7 @@ ghost use Rattle.calvin_types.specs.Orders.{StandsAt};
 ghost use Rattle.calvin_app.specs.declared.answer.Answer.{Answer};
 ghost use Rattle.calvin_order.specs.Configs.{Config, order};
 ghost use Rattle.calvin_order.specs.Merged.{Batch, Assignment};
-ghost use Rattle.calvin_node.specs.NodeStates.{NodeState};
+ghost use Rattle.calvin_acts.specs.NodeStates.{NodeState};
 ghost use Rattle.calvin_packets.specs.declared.packet.Packet.{Packet};
 ghost use Rattle.calvin_packets.specs.declared.packet.Content.TheVariants.{Replies};
 ghost use Rattle.calvin_world.specs.declared.event.Event.{Event};

@@ -1,6 +1,6 @@
 //! The world in code.
 ghost use Rattle.std.specs.Prelude.{◌≡◌, ℕ, ◌<◌, ◌*◌, ◌/◌, ◌%◌, length, map, IfOk, OnErr, IsOkUnless, MatchOption, None, Some, slice_get};
-ghost use Rattle.calvin_node.specs.Running.{Running, config_of};
+ghost use Rattle.calvin_acts.specs.Running.{Running, config_of};
 ghost use Rattle.calvin_world.specs.declared.event.Event.TheVariants.{At, Deliver};
 ghost use Rattle.calvin_world.specs.Histories.{LeadsOn, StaysChosen, EverStays, WasSubmitted, SubmittedBefore, StandsInTime, StandsLater};
 ghost use Rattle.calvin_world.specs.Promises.{Agrees, IsSerial, PointsAreSerial, StandAlike};
@@ -34,7 +34,7 @@ pub struct World<A: App + Drop, L: Locks + Drop, S: Rows<A::Row> + Drop> {
 impl<A: App + Drop, L: Locks + Drop, S: Rows<A::Row> + Drop> Model for World<A, L, S> {
     ghost use Rattle.std.specs.Coded.{codes};
     ghost use Rattle.std.specs.FinMap.{code};
-    ghost use Rattle.calvin_node.specs.Running.{config_of};
+    ghost use Rattle.calvin_acts.specs.Running.{config_of};
     ghost use Rattle.calvin_world.specs.Worlds.{WorldState};
     ghost use Rattle.calvin_world.specs.RunningWorlds.{world_of, IsOpened, IsReached};
 

@@ -3,7 +3,7 @@ use denote.Memory.{lone}
 use Rattle.std.proofs.Common.{false, map, ap, sym, subst, ◌∙◌}
 use Rattle.std.specs.Prelude.{option_map, string_bytes}
 use Rattle.std.specs.FinMap.{entries}
-use Rattle.calvin_node.specs.Running.{config_of}
+use Rattle.calvin_acts.specs.Running.{config_of}
 use Rattle.calvin_packets.proofs.PacketSizes.{packet_of}
 use Rattle.calvin_events.specs.EventForms.{event_of}
 use Rattle.calvin_events.specs.EventScripts.{world_contents}

@@ -1,7 +1,7 @@
 use denote.Memory.{lone}
 use Rattle.calvin_packets.proofs.PacketSizes.{packet_of}
 use Rattle.std.proofs.Common.{false, ◌++◌, ◌∙◌}
-use Rattle.calvin_node.specs.Running.{config_of}
+use Rattle.calvin_acts.specs.Running.{config_of}
 use Rattle.calvin_script.specs.Scripts.{contents}
 use Rattle.calvin_sim.proofs.Leading.{simulation_leads}
 use Rattle.calvin_sim.proofs.telling.simulate_and_tell.Goals as goal

@@ -2,10 +2,10 @@ use Rattle.std.proofs.Common.{[], true, not, Ok, Err, sym, ap, subst, ◌∙◌}
 use Rattle.std.proofs.lemmas.Result.{err_from_is_err_and}
 use Rattle.calvin_order.specs.Keeping.{can_close}
 use Rattle.calvin_order.specs.Sequencing as sequencing
-use Rattle.calvin_node.specs.Acting as acting
-use Rattle.calvin_node.specs.NodeStates.{with_sequencer}
-use Rattle.calvin_node.specs.Running.{NodeDid, config_of, state_of}
-use Rattle.calvin_node.proofs.Settling.{running, left_again, sequenced}
+use Rattle.calvin_acts.specs.Acting as acting
+use Rattle.calvin_acts.specs.NodeStates.{with_sequencer}
+use Rattle.calvin_acts.specs.Running.{NodeDid, config_of, state_of}
+use Rattle.calvin_acts.proofs.Settling.{running, left_again, sequenced}
 use Rattle.calvin_node.proofs.node.Node.close.Goals as goal
 
 pub returns-in_err-_epoch : goal.returns-in_err-_epoch

@@ -1,9 +1,9 @@
 use Rattle.std.proofs.Common.{[], true, refl, sym, ap, subst, ◌∙◌}
 use Rattle.calvin_sched.specs.Progress.{left}
 use Rattle.calvin_sched.specs.Standing as standing
-use Rattle.calvin_node.specs.Acting as acting
-use Rattle.calvin_node.specs.Running.{NodeDid, config_of, state_of}
-use Rattle.calvin_node.proofs.Settling.{running, left_again, scheduled}
+use Rattle.calvin_acts.specs.Acting as acting
+use Rattle.calvin_acts.specs.Running.{NodeDid, config_of, state_of}
+use Rattle.calvin_acts.proofs.Settling.{running, left_again, scheduled}
 use Rattle.calvin_node.proofs.node.Node.cool.Goals as goal
 
 pub returns : goal.returns

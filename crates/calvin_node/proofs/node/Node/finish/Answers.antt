@@ -6,11 +6,11 @@ use Rattle.calvin_sched.specs.Progress.{left}
 use Rattle.calvin_sched.specs.Steps as steps
 use Rattle.calvin_packets.specs.declared.packet.Address.TheVariants.{AtClient}
 use Rattle.calvin_packets.specs.declared.packet.Content.TheVariants.{Replies}
-use Rattle.calvin_node.specs.NodeStates.{site_of}
-use Rattle.calvin_node.specs.Running.{NodeFinished, config_of, state_of}
+use Rattle.calvin_acts.specs.NodeStates.{site_of}
+use Rattle.calvin_acts.specs.Running.{NodeFinished, config_of, state_of}
 use Rattle.calvin_packets.proofs.PacketSizes.{packet_of}
-use Rattle.calvin_node.proofs.Settling.{running, left_then, left_again, unchanged}
-use Rattle.calvin_node.proofs.Beginning.{finished, on_ok, cause}
+use Rattle.calvin_acts.proofs.Settling.{running, left_then, left_again, unchanged}
+use Rattle.calvin_acts.proofs.Beginning.{finished, on_ok, cause}
 use Rattle.calvin_node.proofs.node.Node.finish.Goals as goal
 
 pub push_reserved-requires : goal.push_reserved-requires

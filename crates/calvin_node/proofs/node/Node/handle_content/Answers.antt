@@ -1,11 +1,11 @@
 use Rattle.std.proofs.Common.{true, sym, subst}
 use Rattle.std.specs.FinMap as map
 use Rattle.calvin_sched.specs.Steps as steps
-use Rattle.calvin_node.specs.Growing.{content_grows}
-use Rattle.calvin_node.specs.Handling as handling
-use Rattle.calvin_node.specs.NodeStates.{site_of}
-use Rattle.calvin_node.specs.Running.{NodeDid}
-use Rattle.calvin_node.proofs.Settling.{quiet}
+use Rattle.calvin_acts.specs.Growing.{content_grows}
+use Rattle.calvin_acts.specs.Handling as handling
+use Rattle.calvin_acts.specs.NodeStates.{site_of}
+use Rattle.calvin_acts.specs.Running.{NodeDid}
+use Rattle.calvin_acts.proofs.Settling.{quiet}
 use Rattle.calvin_node.proofs.node.Node.handle_content.Goals as goal
 
 pub returns-in-Synod : goal.returns-in-Synod

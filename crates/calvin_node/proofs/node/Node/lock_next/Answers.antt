@@ -4,11 +4,11 @@ use Rattle.calvin_types.specs.Participants.{site, has_local_key}
 use Rattle.calvin_types.specs.Deeds.{Did}
 use Rattle.calvin_sched.specs.Progress.{left}
 use Rattle.calvin_sched.specs.Steps as steps
-use Rattle.calvin_node.specs.declared.act.Act.TheVariants.{Lock}
-use Rattle.calvin_node.specs.Acting as acting
-use Rattle.calvin_node.specs.Growing.{act_grows}
-use Rattle.calvin_node.specs.Running.{NodeDid, config_of, state_of}
-use Rattle.calvin_node.proofs.Settling.{running, with_steps, left_again, locked, not_locked, first_and_rest}
+use Rattle.calvin_acts.specs.declared.act.Act.TheVariants.{Lock}
+use Rattle.calvin_acts.specs.Acting as acting
+use Rattle.calvin_acts.specs.Growing.{act_grows}
+use Rattle.calvin_acts.specs.Running.{NodeDid, config_of, state_of}
+use Rattle.calvin_acts.proofs.Settling.{running, with_steps, left_again, locked, not_locked, first_and_rest}
 use Rattle.calvin_node.proofs.node.Node.lock_next.Goals as goal
 
 pub returns-in_err-admit : goal.returns-in_err-admit

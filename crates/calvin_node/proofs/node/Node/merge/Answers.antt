@@ -8,12 +8,12 @@ use Rattle.calvin_order.specs.Merged.{joined}
 use Rattle.calvin_types.specs.declared.fault.Fault.TheVariants.{NotComplete, OutOfMemory}
 use Rattle.calvin_order.specs.Configs.{merged, unwoven}
 use Rattle.calvin_order.specs.Merging.{HoldsAll, batch_at}
-use Rattle.calvin_node.specs.declared.act.Act.TheVariants.{Merge}
-use Rattle.calvin_node.specs.Acting as acting
-use Rattle.calvin_node.specs.Growing.{act_grows, is_some_request}
-use Rattle.calvin_node.specs.Running.{NodeDid, IsNode, config_of, state_of}
-use Rattle.calvin_node.proofs.Settling.{running}
-use Rattle.calvin_node.proofs.Merges.{complete_is, wanting, not_given, untold, merging, some_request}
+use Rattle.calvin_acts.specs.declared.act.Act.TheVariants.{Merge}
+use Rattle.calvin_acts.specs.Acting as acting
+use Rattle.calvin_acts.specs.Growing.{act_grows, is_some_request}
+use Rattle.calvin_acts.specs.Running.{NodeDid, IsNode, config_of, state_of}
+use Rattle.calvin_acts.proofs.Settling.{running}
+use Rattle.calvin_acts.proofs.Merges.{complete_is, wanting, not_given, untold, merging, some_request}
 use Rattle.calvin_node.proofs.node.Node.merge.Goals as goal
 
 pub returns-in_err-requests : goal.returns-in_err-requests
@@ -33,8 +33,8 @@ returns-in_err-requests g c =
           (λ is all. given.not_complete.0 is (subst (λ n. HoldsAll p.merge.held p.merge.next n) (sym groups) all)) (λ missing. given.not_complete.1 (λ all. missing (subst (λ n. HoldsAll p.merge.held p.merge.next n) groups all))) refl));
     }
 
-pub returns-in_err-reserve : goal.returns-in_err-reserve
-returns-in_err-reserve g c =
+pub returns-in_err-reserve_merged : goal.returns-in_err-reserve_merged
+returns-in_err-reserve_merged g c =
     let p = c.self.inside in
     let x = state_of p.id p.member p.sequencer p.merge p.pending.items p.scheduler p.kept in
     let config = config_of p.config.partitions p.config.replicas g.S.Rows.points g.S.Rows.cold p.sequencer.delay in
@@ -42,12 +42,12 @@ returns-in_err-reserve g c =
     let held = subst (λ n. HoldsAll p.merge.held p.merge.next n) c.self.invariant.groups c.in_ok-requests.ensures.complete in
     let full = complete_is reply config p.id p.member p.sequencer p.merge p.pending.items p.scheduler p.kept held in
     let is = c.in_ok-requests.ensures.merged ∙ ap (λ n. merged (unwoven n) (batch_at p.merge.held) p.merge.next) c.self.invariant.groups in
-    let failed = err_from_is_err_and c.from_residual-in_err-reserve.result c.from_residual-in_err-reserve.ensures.1 in
-    let some = subst (λ o. is_some_request o ≡ true) is (some_request c.in_ok-requests.requests.items (subst (λ n. 0 < n) (c.len.ensures ∙ c.in_ok-requests.requests.ok.0) c.in_err-reserve.ensures.refused.1)) in
+    let failed = err_from_is_err_and c.from_residual-in_err-reserve_merged.result c.from_residual-in_err-reserve_merged.ensures.1 in
+    let some = subst (λ o. is_some_request o ≡ true) is (some_request c.in_ok-requests.requests.items (subst (λ n. 0 < n) (c.len.ensures ∙ c.in_ok-requests.requests.ok.0) c.in_err-reserve_merged.ensures.refused.1)) in
     record {
-      did = subst (λ v. NodeDid {Reply = reply} (act_grows v.config Merge v.state) c.from_residual-in_err-reserve.result (acting.merge v.config v.state) v (running config (record x { pending = c.reserve.new.pending.items })) [] []) c.self.view_is
-          (subst (λ r. NodeDid {Reply = reply} (act_grows config Merge x) r (acting.merge config x) (running config x) (running config (record x { pending = c.reserve.new.pending.items })) [] []) (sym (failed.1 ∙ ap Err (failed.2 ∙ c.in_err-reserve.ensures.refused.0)))
-          (subst (λ l. NodeDid {Reply = reply} (act_grows config Merge x) (Err OutOfMemory) (acting.merge config x) (running config x) (running config (record x { pending = l })) [] []) (sym c.in_err-reserve.ensures.items)
+      did = subst (λ v. NodeDid {Reply = reply} (act_grows v.config Merge v.state) c.from_residual-in_err-reserve_merged.result (acting.merge v.config v.state) v (running config (record x { pending = c.reserve_merged.new.pending.items })) [] []) c.self.view_is
+          (subst (λ r. NodeDid {Reply = reply} (act_grows config Merge x) r (acting.merge config x) (running config x) (running config (record x { pending = c.reserve_merged.new.pending.items })) [] []) (sym (failed.1 ∙ ap Err (failed.2 ∙ c.in_err-reserve_merged.ensures.refused.0)))
+          (subst (λ l. NodeDid {Reply = reply} (act_grows config Merge x) (Err OutOfMemory) (acting.merge config x) (running config x) (running config (record x { pending = l })) [] []) (sym c.in_err-reserve_merged.ensures.items)
           (wanting reply config p.id p.member p.sequencer p.merge p.pending.items p.scheduler p.kept full some)));
     }
 
@@ -76,9 +76,9 @@ returns-in_err-merged g c =
     let did = untold reply config p.id p.member p.sequencer p.merge p.pending.items p.scheduler p.kept full c.in-Some.epoch c.in_ok-requests.requests.items is c.in-Some.ensures.next c.self.invariant.merged c.in_err-merged.field-0.0 c.merged.new.self (subst (λ l. Did {Out = Unit {0}} (list_any (λ f. has_local_key p.scheduler.here f.1) l) (Err c.in_err-merged.field-0.0) (merge c.in-Some.epoch l p.scheduler) p.scheduler c.merged.new.self) c.deref.ensures.value c.in_err-merged.ensures.did) in
     record {
       did = subst (λ v. NodeDid {Reply = reply} (act_grows v.config Merge v.state) c.from_residual-in_err-merged.result (acting.merge v.config v.state) v
-          (running config (state_of p.id p.member p.sequencer p.merge c.reserve.new.pending.items c.merged.new.self p.kept)) [] []) c.self.view_is
-          (subst (λ r. NodeDid {Reply = reply} (act_grows config Merge x) r (acting.merge config x) (running config x) (running config (state_of p.id p.member p.sequencer p.merge c.reserve.new.pending.items c.merged.new.self p.kept)) [] []) (sym (failed.1 ∙ ap Err failed.2))
-          (subst (λ l. NodeDid {Reply = reply} (act_grows config Merge x) (Err c.in_err-merged.field-0.0) (acting.merge config x) (running config x) (running config (state_of p.id p.member p.sequencer p.merge l c.merged.new.self p.kept)) [] []) (sym c.in_ok-reserve.ensures.items)
+          (running config (state_of p.id p.member p.sequencer p.merge c.reserve_merged.new.pending.items c.merged.new.self p.kept)) [] []) c.self.view_is
+          (subst (λ r. NodeDid {Reply = reply} (act_grows config Merge x) r (acting.merge config x) (running config x) (running config (state_of p.id p.member p.sequencer p.merge c.reserve_merged.new.pending.items c.merged.new.self p.kept)) [] []) (sym (failed.1 ∙ ap Err failed.2))
+          (subst (λ l. NodeDid {Reply = reply} (act_grows config Merge x) (Err c.in_err-merged.field-0.0) (acting.merge config x) (running config x) (running config (state_of p.id p.member p.sequencer p.merge l c.merged.new.self p.kept)) [] []) (sym c.in_ok-reserve_merged.ensures.items)
           (subst (λ s. NodeDid {Reply = reply} (act_grows config Merge x) (Err c.in_err-merged.field-0.0) (acting.merge config x) (running config x) (running config (state_of p.id p.member p.sequencer p.merge p.pending.items s p.kept)) [] []) (sym did.0) did.1)));
     }
 
@@ -93,8 +93,8 @@ returns g c =
     let is = c.in_ok-requests.ensures.merged ∙ ap (λ n. merged (unwoven n) (batch_at p.merge.held) p.merge.next) c.self.invariant.groups in
     record {
       did = subst (λ v. NodeDid {Reply = reply} (act_grows v.config Merge v.state) (Ok tt) (acting.merge v.config v.state) v
-          (running config (state_of p.id p.member p.sequencer c.pass_epoch.new.self c.append.new.pending.items c.merged.new.self p.kept)) [] []) c.self.view_is
-          (merging reply config p.id p.member p.sequencer p.merge p.pending.items p.scheduler p.kept full c.self.invariant.here c.in-Some.epoch c.in_ok-requests.requests.items is c.in-Some.ensures.next c.self.invariant.merged (act_grows config Merge x) c.pass_epoch.new.self c.append.new.pending.items c.merged.new.self
+          (running config (state_of p.id p.member p.sequencer c.pass_epoch.new.self c.append_merged.new.pending.items c.merged.new.self p.kept)) [] []) c.self.view_is
+          (merging reply config p.id p.member p.sequencer p.merge p.pending.items p.scheduler p.kept full c.self.invariant.here c.in-Some.epoch c.in_ok-requests.requests.items is c.in-Some.ensures.next c.self.invariant.merged (act_grows config Merge x) c.pass_epoch.new.self c.append_merged.new.pending.items c.merged.new.self
           (subst (λ l. Did {Out = Unit {0}} (list_any (λ f. has_local_key p.scheduler.here f.1) l) (Ok tt) (merge c.in-Some.epoch l p.scheduler) p.scheduler c.merged.new.self) c.deref.ensures.value c.in_ok-merged.ensures.did)
-          c.in_ok-pass_epoch.ensures.next (c.append.ensures ∙ ap (λ l. l ++ c.in_ok-requests.requests.items) c.in_ok-reserve.ensures.items));
+          c.in_ok-pass_epoch.ensures.next (c.append_merged.ensures ∙ ap (λ l. l ++ c.in_ok-requests.requests.items) c.in_ok-reserve_merged.ensures.items));
     }

@@ -4,10 +4,10 @@ use Rattle.calvin_synod.specs.Cases as cases
 use Rattle.calvin_synod.specs.Cases.{message_grows}
 use Rattle.calvin_synod.specs.Roles.{knows, completes}
 use Rattle.calvin_packets.specs.Letters.{MemberSent}
-use Rattle.calvin_node.specs.Handling as handling
-use Rattle.calvin_node.specs.Running.{NodeDid, config_of, state_of}
-use Rattle.calvin_node.proofs.Settling.{running}
-use Rattle.calvin_node.proofs.Decisions.{wanting, not_counted}
+use Rattle.calvin_acts.specs.Handling as handling
+use Rattle.calvin_acts.specs.Running.{NodeDid, config_of, state_of}
+use Rattle.calvin_acts.proofs.Settling.{running}
+use Rattle.calvin_acts.proofs.Decisions.{wanting, not_counted}
 use Rattle.calvin_node.proofs.node.Node.on_last_vote.Goals as goal
 
 pub returns-in_err-_given : goal.returns-in_err-_given

@@ -3,10 +3,10 @@ use Rattle.std.proofs.lemmas.Result.{err_from_is_err_and}
 use Rattle.calvin_synod.specs.Cases as cases
 use Rattle.calvin_synod.specs.Cases.{message_grows}
 use Rattle.calvin_packets.specs.Letters.{MemberSent, given_by}
-use Rattle.calvin_node.specs.Handling as handling
-use Rattle.calvin_node.specs.Running.{NodeDid, config_of, state_of}
-use Rattle.calvin_node.proofs.Settling.{running, left_again}
-use Rattle.calvin_node.proofs.Answered.{by_member, names_kept}
+use Rattle.calvin_acts.specs.Handling as handling
+use Rattle.calvin_acts.specs.Running.{NodeDid, config_of, state_of}
+use Rattle.calvin_acts.proofs.Settling.{running, left_again}
+use Rattle.calvin_acts.proofs.Answered.{by_member, names_kept}
 use Rattle.calvin_node.proofs.node.Node.on_letter.Goals as goal
 
 pub invariant_of-self : goal.invariant_of-self

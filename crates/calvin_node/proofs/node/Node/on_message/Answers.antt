@@ -1,7 +1,7 @@
 use Rattle.std.proofs.Common.{inl, inr, refl, subst}
 use Rattle.calvin_synod.specs.Cases.{message_grows}
-use Rattle.calvin_node.specs.Running.{NodeDid}
-use Rattle.calvin_node.proofs.Answered.{same_on}
+use Rattle.calvin_acts.specs.Running.{NodeDid}
+use Rattle.calvin_acts.proofs.Answered.{same_on}
 use Rattle.calvin_node.proofs.node.Node.on_message.Goals as goal
 
 pub returns-in-Prepare : goal.returns-in-Prepare

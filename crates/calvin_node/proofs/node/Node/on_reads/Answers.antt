@@ -1,10 +1,10 @@
 use Rattle.std.proofs.Common.{[], true, false, refl, sym, ap, subst, ◌∙◌}
 use Rattle.calvin_sched.specs.Progress.{left}
 use Rattle.calvin_sched.specs.Steps as steps
-use Rattle.calvin_node.specs.Handling as handling
-use Rattle.calvin_node.specs.NodeStates.{site_of}
-use Rattle.calvin_node.specs.Running.{NodeDid, config_of, state_of}
-use Rattle.calvin_node.proofs.Settling.{running, left_again, scheduled}
+use Rattle.calvin_acts.specs.Handling as handling
+use Rattle.calvin_acts.specs.NodeStates.{site_of}
+use Rattle.calvin_acts.specs.Running.{NodeDid, config_of, state_of}
+use Rattle.calvin_acts.proofs.Settling.{running, left_again, scheduled}
 use Rattle.calvin_node.proofs.node.Node.on_reads.Goals as goal
 
 pub returns : goal.returns

@@ -3,9 +3,9 @@ use Rattle.calvin_types.specs.Deeds.{Does}
 use Rattle.calvin_sched.specs.Progress.{left}
 use Rattle.calvin_sched.specs.Standing as standing
 use Rattle.calvin_packets.specs.declared.packet.Content.TheVariants.{Warm}
-use Rattle.calvin_node.specs.Handling as handling
-use Rattle.calvin_node.specs.Running.{NodeDid, config_of, state_of}
-use Rattle.calvin_node.proofs.Settling.{running, left_again, scheduled}
+use Rattle.calvin_acts.specs.Handling as handling
+use Rattle.calvin_acts.specs.Running.{NodeDid, config_of, state_of}
+use Rattle.calvin_acts.proofs.Settling.{running, left_again, scheduled}
 use Rattle.calvin_node.proofs.node.Node.on_warm.Goals as goal
 
 pub returns : goal.returns

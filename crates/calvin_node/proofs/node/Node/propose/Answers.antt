@@ -6,12 +6,12 @@ use Rattle.calvin_synod.specs.Cases as cases
 use Rattle.calvin_synod.specs.Deeds.{Sends}
 use Rattle.calvin_order.specs.Merged.{Batch}
 use Rattle.calvin_packets.specs.Letters.{MemberSent}
-use Rattle.calvin_node.specs.NodeStates.{own_slot}
-use Rattle.calvin_node.specs.Acting as acting
-use Rattle.calvin_node.specs.Running.{NodeDid, config_of, state_of}
-use Rattle.calvin_node.proofs.Settling.{running, left_again, copied_some}
-use Rattle.calvin_node.proofs.Answered.{names_kept}
-use Rattle.calvin_node.proofs.Proposals.{spent, not_closed, held_already, proposed}
+use Rattle.calvin_acts.specs.NodeStates.{own_slot}
+use Rattle.calvin_acts.specs.Acting as acting
+use Rattle.calvin_acts.specs.Running.{NodeDid, config_of, state_of}
+use Rattle.calvin_acts.proofs.Settling.{running, left_again, copied_some}
+use Rattle.calvin_acts.proofs.Answered.{names_kept}
+use Rattle.calvin_acts.proofs.Proposals.{spent, not_closed, held_already, proposed}
 use Rattle.calvin_node.proofs.node.Node.propose.Goals as goal
 
 pub returns-in_err-prepare_to_all : goal.returns-in_err-prepare_to_all

@@ -9,12 +9,12 @@ use Rattle.calvin_sched.specs.Steps as steps
 use Rattle.calvin_packets.proofs.PacketSizes.{packet_of}
 use Rattle.calvin_packets.specs.declared.packet.Address.TheVariants.{AtClient}
 use Rattle.calvin_packets.specs.declared.packet.Content.TheVariants.{Replies}
-use Rattle.calvin_node.specs.Acting as acting
-use Rattle.calvin_node.specs.NodeStates.{site_of}
-use Rattle.calvin_node.specs.Running.{NodeDid, config_of, state_of}
-use Rattle.calvin_node.proofs.Settling.{running, left_then, left_again, unchanged}
-use Rattle.calvin_node.proofs.Beginning.{on_ok}
-use Rattle.calvin_node.proofs.Ran.{not_run, ran}
+use Rattle.calvin_acts.specs.Acting as acting
+use Rattle.calvin_acts.specs.NodeStates.{site_of}
+use Rattle.calvin_acts.specs.Running.{NodeDid, config_of, state_of}
+use Rattle.calvin_acts.proofs.Settling.{running, left_then, left_again, unchanged}
+use Rattle.calvin_acts.proofs.Beginning.{on_ok}
+use Rattle.calvin_acts.proofs.Ran.{not_run, ran}
 use Rattle.calvin_node.proofs.node.Node.run.Goals as goal
 
 pub push_reserved-requires : goal.push_reserved-requires

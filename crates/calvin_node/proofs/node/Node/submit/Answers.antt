@@ -1,10 +1,10 @@
 use Rattle.std.proofs.Common.{[], true, not, sym, subst}
 use Rattle.calvin_order.specs.Keeping.{can_submit}
 use Rattle.calvin_order.specs.Sequencing as sequencing
-use Rattle.calvin_node.specs.Acting as acting
-use Rattle.calvin_node.specs.NodeStates.{with_sequencer}
-use Rattle.calvin_node.specs.Running.{NodeDid, config_of, state_of}
-use Rattle.calvin_node.proofs.Settling.{running, left_again, sequenced, ended_is}
+use Rattle.calvin_acts.specs.Acting as acting
+use Rattle.calvin_acts.specs.NodeStates.{with_sequencer}
+use Rattle.calvin_acts.specs.Running.{NodeDid, config_of, state_of}
+use Rattle.calvin_acts.proofs.Settling.{running, left_again, sequenced, ended_is}
 use Rattle.calvin_node.proofs.node.Node.submit.Goals as goal
 
 pub returns : goal.returns

@@ -1,7 +1,7 @@
 -- Each node that is made is a new one, and has the next name.
 use Rattle.std.proofs.Common.{map, ap, ◌∙◌, arith}
 use Rattle.std.specs.List.{range_with_len}
-use Rattle.calvin_node.specs.Running.{config_of}
+use Rattle.calvin_acts.specs.Running.{config_of}
 use Rattle.calvin_world.specs.RunningWorlds.{world_of}
 use Rattle.calvin_world.proofs.InCode.{at_first, one_more, opened_nodes, opened_world, opening_reached}
 use Rattle.calvin_world.proofs.world.World.new.Goals as goal

@@ -1,7 +1,7 @@
 -- So far each node is new.
 use Rattle.std.proofs.Common.{◌≡◌, map}
 use Rattle.std.specs.List.{range_with_len}
-use Rattle.calvin_node.specs.Running.{config_of}
+use Rattle.calvin_acts.specs.Running.{config_of}
 use Rattle.calvin_world.proofs.InCode.{at_first}
 use Rattle.calvin_world.proofs.world.World.new.Given as goal
 

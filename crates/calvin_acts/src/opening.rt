@@ -1,0 +1,41 @@
+//! What a node is opened with: the scheduler that goes on from a snapshot, and the epoch after it.
+ghost use Rattle.std.specs.Prelude.{◌≡◌, ◌^◌, [], IfOk, IsOkUnless};
+ghost use Rattle.std.specs.Option.{unwrap_or};
+ghost use Rattle.calvin_types.specs.Participants.{site};
+ghost use Rattle.calvin_order.specs.Merged.{end_of};
+ghost use Rattle.calvin_sched.specs.Scheduling.{opened};
+ghost use Rattle.calvin_acts.specs.Running.{kept_epochs, kept_rows};
+
+use calvin_app::App;
+use calvin_lock::Locks;
+use calvin_sched::Scheduler;
+use calvin_store::{Rows, Snapshot};
+use calvin_types::{Config, Fault};
+use std::alloc::Global;
+
+/// The epoch after those of the last snapshot, if one is left below 2^64; epoch 0 where there is no snapshot.
+pub fn first_epoch<Row>(kept: &Option<(u64, Snapshot<Row>)>) -> Option<u64>
+    ensures { unwrap_or result (2 ^ 64) ≡ kept_epochs kept.now }
+{
+    match kept {
+        Some((epoch, _)) => epoch.checked_add(1),
+        None => Some(0),
+    }
+}
+
+/// A scheduler that goes on from the last snapshot, or begins on no rows where there is none. Refused with `OutOfMemory`
+/// where a growth was refused.
+pub fn scheduler_from<A: App, L: Locks + Drop, S: Rows<A::Row> + Drop>(
+    alloc: Global,
+    config: &Config,
+    partition: u8,
+    kept: &Option<(u64, Snapshot<A::Row>)>,
+) -> Result<Scheduler<A, L, S>, Fault>
+    ensures ok { IfOk result (λ s. s ≡ record { here = site config.now.partitions partition; scheduling = opened (end_of (kept_epochs kept.now)) (kept_rows kept.now); room = s.room; merged = kept_epochs kept.now; due = []; due_room = 0 }) }
+    ensures only { IsOkUnless result Fault.OutOfMemory }
+{
+    match kept {
+        Some((epoch, rows)) => Scheduler::from_snapshot(alloc, config, partition, rows, *epoch),
+        None => Ok(Scheduler::new(alloc, config, partition)),
+    }
+}
