@@ -1,16 +1,18 @@
--- A key put among keys that rise, which are passed from the greatest on and moved up as they are passed.
-use Rattle.std.proofs.Common.{◌≡◌, ℕ, zero, suc, ◌+◌, ◌≤◌, true, List, [], ◌∷◌, ◌++◌, length, take, drop, Some, slice_get, slice_set, refl, sym, ◌∙◌, ap, subst, arith}
+-- Keys that rise, which are passed from the greatest on: where a key goes among them, and what they are where each is moved
+-- up as it is passed.
+use Rattle.std.proofs.Common.{◌≡◌, ℕ, zero, suc, ◌+◌, ◌-◌, ◌≤◌, true, false, ◌||◌, List, [], ◌∷◌, ◌++◌, length, drop, Some, slice_get, slice_set, refl, sym, ◌∙◌, ap, subst, arith}
 use Rattle.std.specs.List.{insert}
 use Rattle.std.specs.declared.cmp.Ordering.TheVariants.{Less, Equal, Greater}
-use Rattle.std.specs.Ordering.{is_lt, ordering_reverse}
+use Rattle.std.specs.Ordering.{is_lt, is_eq, ordering_reverse}
 use Rattle.std.proofs.lemmas.List.{take_all, drop_all, length-set}
 use Rattle.std.proofs.lemmas.List.Edits.{length-insert}
 use Rattle.std.proofs.lemmas.Option.{none-some, same_Some}
 use Rattle.calvin_types.specs.declared.key.Key.{Key}
 use Rattle.calvin_types.specs.Exact.{first, second, both}
-use Rattle.calvin_types.specs.Keys.{key_cmp, below_all, rises, by_order, insert_key}
+use Rattle.calvin_types.specs.Keys.{key_cmp, has, below_all, rises, by_order, insert_key}
 use Rattle.calvin_types.specs.KeyOrder.{key_cmp_total, key_cmp_exact}
-use Rattle.calvin_types.proofs.Risings.{less}
+use Rattle.calvin_types.specs.KeyPlaces.{IsMissingAt}
+use Rattle.calvin_types.proofs.Risings.{less, has-below}
 
 -- ---- where the key goes
 
@@ -47,6 +49,29 @@ there q (a ∷ ks) zero k rising here is = ap (λ o. by_order o (q ∷ a ∷ ks)
 there q (a ∷ ks) (suc j) k rising here is =
     let low : key_cmp a q ≡ Less = subst (λ y. key_cmp a y ≡ Less) (sym (key_cmp_exact q k is)) (below_at a ks j k (first _ _ rising) here) in
     ap (λ o. by_order o (q ∷ a ∷ ks) (a ∷ ks) (a ∷ insert_key q ks)) (above q a low) ∙ ap (λ xs. a ∷ xs) (there q ks j k (second _ _ rising) here is)
+
+-- a key above one that is behind all of the others isn't among them
+missing_behind : (q : Key) (ks : List Key) (j : ℕ) (k : Key) → rises ks ≡ true → slice_get ks j ≡ Some k → key_cmp q k ≡ Greater → below_all q (drop (suc j) ks) ≡ true
+    → has ks q ≡ false
+missing_behind q [] j k rising here is rest = absurd (none-some _ here)
+missing_behind q (a ∷ ks) zero k rising here is rest =
+    ap (λ o. is_eq o || has ks q) (ap (key_cmp q) (same_Some a k here) ∙ is) ∙ has-below q ks rest
+missing_behind q (a ∷ ks) (suc j) k rising here is rest =
+    ap (λ o. is_eq o || has ks q) (above_both q a k (below_at a ks j k (first _ _ rising) here) is)
+    ∙ missing_behind q ks j k (second _ _ rising) here is rest
+
+-- a key above the last one isn't there, and goes behind it
+pub free_last : (q : Key) (ks : List Key) (n : ℕ) (k : Key) → n ≡ length ks → rises ks ≡ true → slice_get ks (n - 1) ≡ Some k → key_cmp q k ≡ Greater → IsMissingAt q ks (length ks)
+free_last q [] n k is rising here greater = absurd (none-some _ here)
+free_last q (a ∷ ks) n k is rising here greater =
+    let last : n - 1 ≡ length ks = omega (arith, is) in
+    let there : slice_get (a ∷ ks) (length ks) ≡ Some k = ap (λ (m : ℕ). slice_get (a ∷ ks) m) (sym last) ∙ here in
+    let none : below_all q (drop (suc (length ks)) (a ∷ ks)) ≡ true = ap (below_all q) (drop_all (suc (length ks)) (a ∷ ks) (omega arith)) in
+    record {
+      within = omega arith;
+      missing = missing_behind q (a ∷ ks) (length ks) k rising there greater none;
+      insert_is = behind q (a ∷ ks) (length ks) k rising there greater none;
+    }
 
 -- ---- the keys on the way: all of them, and one more in between
 

@@ -1,6 +1,6 @@
 -- The order of places is total, and places that tie are one.
 use Rattle.std.proofs.Common.{◌≡◌, true, sym, subst}
-use Rattle.std.specs.Ordering.{nat_cmp, eq_by_cmp}
+use Rattle.std.specs.Ordering.{eq_by_cmp}
 use Rattle.std.specs.Cmp.{IsTotalOrder, nat_cmp_total, tied_itself, Equal-is}
 use Rattle.std.proofs.lemmas.Cmp.{on_total, then_total}
 use Rattle.calvin_types.specs.declared.place.Place.{Place}

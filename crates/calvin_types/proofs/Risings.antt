@@ -24,7 +24,7 @@ below_less x y [] p h = refl
 below_less x y (k ∷ ks) p h = both _ _ (ap is_lt (key_cmp_total.trans x y k p (less _ (first _ _ h)))) (below_less x y ks p (second _ _ h))
 
 -- a key below all of a list isn't in it
-has-below : (q : Key) (ks : List Key) → below_all q ks ≡ true → has ks q ≡ false
+pub has-below : (q : Key) (ks : List Key) → below_all q ks ≡ true → has ks q ≡ false
 has-below q [] h = refl
 has-below q (k ∷ ks) h = ap (λ o. is_eq o || has ks q) (less (key_cmp q k) (first _ _ h)) ∙ has-below q ks (second _ _ h)
 

@@ -3,7 +3,7 @@ use Rattle.std.proofs.Common.{◌≡◌, Bool, true, cond, List, Option, Some, N
 use Rattle.std.specs.Option.{IsSome, OnSome, option_copied_mut}
 use Rattle.std.specs.declared.cmp.Ordering.{Ordering}
 use Rattle.std.specs.Ordering.{eq_by_cmp}
-use Rattle.std.specs.Cmp.{IsTotalOrder, IsEquivalence, Equal-is, tied_itself}
+use Rattle.std.specs.Cmp.{IsTotalOrder, IsEquivalence, Equal-is}
 use Rattle.std.specs.Map.{lookup}
 use Rattle.std.specs.FinMap.{IsAntisymmetric, get, insert, remove, from_entries}
 use Rattle.calvin_types.proofs.HashMaps as maps

@@ -1,6 +1,5 @@
 -- Slots in their order, maps of slots, and a hash map of slots beside the finite map that its entries are.
 use Rattle.std.proofs.Common.{◌≡◌, ◌≢◌, Bool, true, cond, ◌&&◌, ◌⊎◌, List, Some, None, nat_eq, refl, eqb-true, eq-eqb}
-use Rattle.std.specs.Ordering.{nat_cmp}
 use Rattle.std.specs.Cmp.{IsTotalOrder, nat_cmp_total}
 use Rattle.std.specs.Map.{lookup}
 use Rattle.std.specs.FinMap.{FinMap, get, insert, remove, from_entries}

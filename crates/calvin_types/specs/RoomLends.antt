@@ -1,6 +1,6 @@
 -- What a map with room ends as, where a `&mut` to one of its values is lent.
 --     lends_at key r      the key has the last value behind r, and the room stays; with none lent the map stays as it is
-use Rattle.std.specs.Prelude.{◌≡◌, Bool, List, ℕ, Option, OnSome}
+use Rattle.std.specs.Prelude.{◌≡◌, Option, OnSome}
 use Rattle.std.specs.Borrow.{Fml, RattleType, MutBor, LendsSo}
 use Rattle.std.specs.declared.cmp.Ordering.{Ordering}
 use Rattle.std.specs.FinMap.{insert}

@@ -111,8 +111,23 @@ impl KeySet {
         Ok(())
     }
 
-    /// Adds a key to fewer than sixteen, unless it is there.
+    /// Adds a key to fewer than sixteen, unless it is there. Keys that come in their order are each found at once to be
+    /// above the others.
+    #[inline(always)]
     pub fn grow(&mut self, key: Key)
+        requires { length self.old < MOST_KEYS }
+        ensures { self.new ≡ insert_key key self.old }
+    {
+        if is_above_all(&self.keys, key) {
+            self.put_last(key);
+        } else {
+            self.grow_among(key);
+        }
+    }
+
+    /// The same as `grow`, wherever the key goes. It stands apart, so that `grow` is put into its callers.
+    #[inline(never)]
+    fn grow_among(&mut self, key: Key)
         requires { length self.old < MOST_KEYS }
         ensures { self.new ≡ insert_key key self.old }
     {
@@ -160,6 +175,16 @@ impl KeySet {
         ensures { self.new ≡ insert_key key self.old }
     {
         self.keys.insert(i, key);
+    }
+
+    /// Puts a key that is above all others at the end, where there is room.
+    #[inline(always)]
+    fn put_last(&mut self, key: Key)
+        requires missing { IsMissingAt key self.old (length self.old) }
+        requires room { length self.old < MOST_KEYS }
+        ensures { self.new ≡ insert_key key self.old }
+    {
+        self.keys.push(key);
     }
 
     /// The keys of both sets. Refused with `TooManyKeys` where these are more than sixteen.
@@ -264,6 +289,19 @@ fn free_place(keys: &KeyList, key: Key) -> Option<usize>
         }
     }
     Some(keys.len())
+}
+
+/// Whether a key is above all others, so that it would stand at the end.
+#[inline(always)]
+fn is_above_all(keys: &KeyList, key: Key) -> bool
+    requires { IsTrue (rises keys.now) }
+    ensures { IsTrue result → IsMissingAt key keys.now (length keys.now) }
+{
+    let size = keys.len();
+    if size == 0 {
+        return true;
+    }
+    keys.at(size - 1) < key
 }
 
 /// Puts a key among fewer than sixteen that rise, and says so, unless it is there; then any keys may be left.
