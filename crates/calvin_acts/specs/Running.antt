@@ -55,7 +55,6 @@ abbrev pub config_of : ℕ → ℕ → Bool → Bool → ℕ → Config
 config_of partitions replicas points cold delay = record { replicas = replicas; partitions = partitions; points = points; cold = cold; delay = delay; woven_from = None }
 
 module _ {Args Row : Type 0} where
-  -- the data of a node with these parts
   abbrev pub state_of : NodeId → MemberState (Batch Args) → Sequenced Args → Merging Args → Order Args → Scheduled Args Row → Option (ℕ × Rows Row) → NodeState Args Row
   state_of id member sequencer merge pending scheduler kept = record {
     id = id;

@@ -1,9 +1,10 @@
 //! What a node is opened with: the scheduler that goes on from a snapshot, and the epoch after it.
-ghost use Rattle.std.specs.Prelude.{◌≡◌, ◌^◌, [], IfOk, IsOkUnless};
+ghost use Rattle.std.specs.Prelude.{◌≡◌, ◌^◌, [], true, IfOk, IfErr};
 ghost use Rattle.std.specs.Option.{unwrap_or};
 ghost use Rattle.calvin_types.specs.Participants.{site};
 ghost use Rattle.calvin_order.specs.Merged.{end_of};
 ghost use Rattle.calvin_sched.specs.Scheduling.{opened};
+ghost use Rattle.calvin_acts.specs.Growing.{is_snapshot};
 ghost use Rattle.calvin_acts.specs.Running.{kept_epochs, kept_rows};
 
 use calvin_app::App;
@@ -24,7 +25,7 @@ pub fn first_epoch<Row>(kept: &Option<(u64, Snapshot<Row>)>) -> Option<u64>
 }
 
 /// A scheduler that goes on from the last snapshot, or begins on no rows where there is none. Refused with `OutOfMemory`
-/// where a growth was refused.
+/// where a growth was refused, and only where there is a snapshot.
 pub fn scheduler_from<A: App, L: Locks + Drop, S: Rows<A::Row> + Drop>(
     alloc: Global,
     config: &Config,
@@ -32,7 +33,7 @@ pub fn scheduler_from<A: App, L: Locks + Drop, S: Rows<A::Row> + Drop>(
     kept: &Option<(u64, Snapshot<A::Row>)>,
 ) -> Result<Scheduler<A, L, S>, Fault>
     ensures ok { IfOk result (λ s. s ≡ record { here = site config.now.partitions partition; scheduling = opened (end_of (kept_epochs kept.now)) (kept_rows kept.now); room = s.room; merged = kept_epochs kept.now; due = []; due_room = 0 }) }
-    ensures only { IsOkUnless result Fault.OutOfMemory }
+    ensures only { IfErr result (λ fault. (fault ≡ Fault.OutOfMemory) × (is_snapshot (kept_epochs kept.now) ≡ true)) }
 {
     match kept {
         Some((epoch, rows)) => Scheduler::from_snapshot(alloc, config, partition, rows, *epoch),

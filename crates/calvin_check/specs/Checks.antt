@@ -35,7 +35,6 @@ use Rattle.calvin_report.specs.declared.replies.Epochs.TheVariants.{All}
 use Rattle.calvin_report.specs.Replies.{replied, of_epochs, reply_lines}
 use Rattle.calvin_report.specs.Reports.{outcome_lines, node_lines, least_standing}
 
--- the texts are the lines, each without its line feed
 abbrev pub are_lines : List (List ℕ) → List (List ℕ) → Bool
 are_lines texts lines = pointwise bytes_eq (map (λ text. text ++ codes "\n") texts) lines
 

@@ -48,8 +48,9 @@ where
     let config = Config {
         partitions: script.partitions,
         replicas: script.replicas,
+        delay: 0,
     };
-    let mut world = World::<A, QueueLocks, PlainRows<A::Row>>::new(alloc, &config, 0, app)?;
+    let mut world = World::<A, QueueLocks, PlainRows<A::Row>>::new(alloc, &config, app)?;
     let mut text = Vec::new(alloc);
     run_events(&mut world, &script.events, &mut text)?;
     push_nodes(&mut text, &world)?;

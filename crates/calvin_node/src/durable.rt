@@ -3,7 +3,9 @@ ghost use Rattle.std.specs.Prelude.{◌≡◌, [], Ok, true, IfOk, IfErr};
 ghost use Rattle.calvin_acts.specs.Acting as acting;
 ghost use Rattle.calvin_acts.specs.Durables as durables;
 ghost use Rattle.calvin_acts.specs.Durables.{durable_of};
+ghost use Rattle.calvin_acts.specs.Growing.{act_grows, is_snapshot};
 ghost use Rattle.calvin_acts.specs.Running.{NodeDid, config_of};
+ghost use Rattle.calvin_acts.specs.declared.act.Act.TheVariants as act;
 
 use crate::node::Node;
 use calvin_acts::{first_epoch, scheduler_from};
@@ -41,9 +43,10 @@ impl<A: App> Model for Durable<A> {
 
 impl<A: App, L: Locks + Drop, S: Rows<A::Row> + Drop> Node<A, L, S> {
     /// The node loses all but its durable record, and comes back from it: from its last snapshot on it asks for the batches
-    /// again, and runs them (section 5). Refused with `OutOfMemory` where a growth was refused: then nothing is lost.
+    /// again, and runs them (section 5). Refused with `OutOfMemory` where it has a snapshot and a growth was refused: then
+    /// nothing is lost.
     pub fn restart(&mut self) -> Result<(), Fault>
-        ensures did { NodeDid {Reply = A.Reply} true result (acting.restart self.old.state) self.old self.new [] [] }
+        ensures did { NodeDid {Reply = A.Reply} (act_grows self.old.config act.Restart self.old.state) result (acting.restart self.old.state) self.old self.new [] [] }
     {
         let scheduler = scheduler_from(self.alloc, &self.config, self.id.partition, &self.kept)?;
         let first = first_epoch(&self.kept);
@@ -66,17 +69,17 @@ impl<A: App, L: Locks + Drop, S: Rows<A::Row> + Drop> Node<A, L, S> {
     }
 
     /// A node that is opened from a record, under a name: what `restart` makes of a node of this name with that record. Refused
-    /// with `OutOfMemory` where a growth was refused: the record is handed back.
+    /// with `OutOfMemory` where the record has a snapshot and a growth was refused: the record is handed back.
     pub fn from_durable(
         alloc: Global,
         config: &Config,
-        delay: u8,
         id: NodeId,
         durable: Durable<A>,
     ) -> Result<Node<A, L, S>, (Fault, Durable<A>)>
-        ensures config { IfOk result (λ n. n.config ≡ config_of config.now.partitions config.now.replicas S.points S.cold delay) }
+        ensures config { IfOk result (λ n. n.config ≡ config_of config.now.partitions config.now.replicas S.points S.cold config.now.delay) }
         ensures state { IfOk result (λ n. durables.from_durable n.config id durable ≡ Ok n.state) }
-        ensures err { IfErr result (λ refused. (refused.0 ≡ Fault.OutOfMemory) × (refused.1 ≡ durable)) }
+        ensures err { IfErr result (λ refused. refused.1 ≡ durable) }
+        ensures only { IfErr result (λ refused. (refused.0 ≡ Fault.OutOfMemory) × (is_snapshot durable.kept_epochs ≡ true)) }
     {
         let scheduler = match scheduler_from(alloc, config, id.partition, &durable.kept) {
             Ok(scheduler) => scheduler,
@@ -88,7 +91,7 @@ impl<A: App, L: Locks + Drop, S: Rows<A::Row> + Drop> Node<A, L, S> {
             config: *config,
             id,
             member: Member::from_record(alloc, config, id.replica, durable.synod),
-            sequencer: Sequencer::from_epoch(alloc, delay, first),
+            sequencer: Sequencer::from_epoch(alloc, config.delay, first),
             merge: Merge::from_epoch(alloc, config, first),
             pending: VecDeque::new(alloc),
             scheduler,

@@ -1,5 +1,5 @@
 //! What a node makes of a packet.
-ghost use Rattle.std.specs.Prelude.{[], true};
+ghost use Rattle.std.specs.Prelude.{[], false, true};
 ghost use Rattle.std.specs.FinMap as map;
 ghost use Rattle.calvin_sched.specs.Scheduling.{turn_at};
 ghost use Rattle.calvin_sched.specs.Standing as standing;
@@ -27,7 +27,7 @@ impl<A: App, L: Locks + Drop, S: Rows<A::Row> + Drop> Node<A, L, S> {
         packet: &Packet<A::Args, A::Row, A::Reply>,
         outbox: &mut Outbox<A>,
     ) -> Result<(), Fault>
-        ensures did { NodeDid (content_grows packet.now.content) result (handling.handle self.old.config packet.now self.old.state) self.old self.new outbox.old.packets outbox.new.packets }
+        ensures did { NodeDid (content_grows self.old.config packet.now.content) result (handling.handle self.old.config packet.now self.old.state) self.old self.new outbox.old.packets outbox.new.packets }
     {
         if !packet.to.is_for(self.id) {
             return Err(Fault::NotMine);
@@ -42,7 +42,7 @@ impl<A: App, L: Locks + Drop, S: Rows<A::Row> + Drop> Node<A, L, S> {
         content: &Content<A::Args, A::Row, A::Reply>,
         outbox: &mut Outbox<A>,
     ) -> Result<(), Fault>
-        ensures did { NodeDid (content_grows content.now) result (handling.handle_content self.old.config from content.now self.old.state) self.old self.new outbox.old.packets outbox.new.packets }
+        ensures did { NodeDid (content_grows self.old.config content.now) result (handling.handle_content self.old.config from content.now self.old.state) self.old self.new outbox.old.packets outbox.new.packets }
     {
         match content {
             Content::Synod(message) => self.on_synod(from, message, outbox),
@@ -87,9 +87,9 @@ impl<A: App, L: Locks + Drop, S: Rows<A::Row> + Drop> Node<A, L, S> {
     }
 
     /// The rows that another partition read for the request at a place are kept (section 3.2: remote reads). Refused with
-    /// `NotAwaited` where they aren't awaited.
+    /// `NotAwaited` where they aren't awaited. It takes no memory.
     fn on_reads(&mut self, from: u8, place: Place, rows: &View<A::Row>) -> Result<(), Fault>
-        ensures did { NodeDid {Reply = A.Reply} true result (handling.by_scheduler self.old.state (steps.on_reads (site_of self.old.config.partitions self.old.state) place from rows.now self.old.state.scheduler)) self.old self.new [] [] }
+        ensures did { NodeDid {Reply = A.Reply} false result (handling.by_scheduler self.old.state (steps.on_reads (site_of self.old.config.partitions self.old.state) place from rows.now self.old.state.scheduler)) self.old self.new [] [] }
     {
         self.scheduler.due_is_undone();
         self.scheduler.on_reads(place, from, rows)
@@ -112,9 +112,10 @@ impl<A: App, L: Locks + Drop, S: Rows<A::Row> + Drop> Node<A, L, S> {
         })
     }
 
-    /// The rows of these keys come back from the cold table, where they are there (section 4).
+    /// The rows of these keys come back from the cold table, where they are there (section 4). Refused with `OutOfMemory` where
+    /// there is such a table and a growth was refused.
     fn on_warm(&mut self, sets: &Sets) -> Result<(), Fault>
-        ensures did { NodeDid {Reply = A.Reply} true result (handling.handle_content self.old.config self.old.state.id (Warm sets.now) self.old.state) self.old self.new [] [] }
+        ensures did { NodeDid {Reply = A.Reply} self.old.config.cold result (handling.handle_content self.old.config self.old.state.id (Warm sets.now) self.old.state) self.old self.new [] [] }
     {
         self.scheduler.due_is_undone();
         self.scheduler.warm(sets)

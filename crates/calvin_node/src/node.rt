@@ -56,10 +56,9 @@ impl<A: App, L: Locks + Drop, S: Rows<A::Row> + Drop> Model for Node<A, L, S> {
 }
 
 impl<A: App, L: Locks + Drop, S: Rows<A::Row> + Drop> Node<A, L, S> {
-    /// A node at first: nothing is submitted, promised, held or kept, and there is no row. A request that may touch cold rows
-    /// is held back for `delay` closings.
-    pub fn new(alloc: Global, config: &Config, delay: u8, id: NodeId) -> Node<A, L, S>
-        ensures config { result.config ≡ config_of config.now.partitions config.now.replicas S.points S.cold delay }
+    /// A node at first: nothing is submitted, promised, held or kept, and there is no row.
+    pub fn new(alloc: Global, config: &Config, id: NodeId) -> Node<A, L, S>
+        ensures config { result.config ≡ config_of config.now.partitions config.now.replicas S.points S.cold config.now.delay }
         ensures state { result.state ≡ new_node id }
     {
         Node {
@@ -67,7 +66,7 @@ impl<A: App, L: Locks + Drop, S: Rows<A::Row> + Drop> Node<A, L, S> {
             config: *config,
             id,
             member: Member::new(alloc, config, id.replica),
-            sequencer: Sequencer::new(alloc, delay),
+            sequencer: Sequencer::new(alloc, config.delay),
             merge: Merge::new(alloc, config),
             pending: VecDeque::new(alloc),
             scheduler: Scheduler::new(alloc, config, id.partition),

@@ -1,7 +1,9 @@
 //! Snapshots of a node's rows, points of consistency, and cold rows.
 ghost use Rattle.std.specs.Prelude.{◌+◌, ◌≤◌, [], false, true, MatchBool};
 ghost use Rattle.calvin_acts.specs.Acting as acting;
+ghost use Rattle.calvin_acts.specs.Growing.{act_grows};
 ghost use Rattle.calvin_acts.specs.Running.{NodeDid};
+ghost use Rattle.calvin_acts.specs.declared.act.Act.TheVariants as act;
 
 use crate::node::Node;
 use calvin_app::App;
@@ -22,9 +24,9 @@ impl<A: App, L: Locks + Drop, S: Rows<A::Row> + Drop> Node<A, L, S> {
 
     /// The row of a key goes to the cold table (section 4). Refused with `PointOpen` where a point is open, with `NoRow` where
     /// the key has no row that isn't cold, and with `NoColdTable` where the keeper of rows has no such table; else with
-    /// `OutOfMemory` where a growth was refused.
+    /// `OutOfMemory` where it has one and a growth was refused.
     pub fn cool(&mut self, key: &Key) -> Result<(), Fault>
-        ensures did { NodeDid {Reply = A.Reply} true result (acting.cool_row self.old.config key.now self.old.state) self.old self.new [] [] }
+        ensures did { NodeDid {Reply = A.Reply} (act_grows self.old.config (act.Cool key.now) self.old.state) result (acting.cool_row self.old.config key.now self.old.state) self.old self.new [] [] }
     {
         self.scheduler.due_is_undone();
         self.scheduler.cool(key)

@@ -53,7 +53,7 @@ fn add_replica<L: Locks + Drop>(
 ) -> Result<(), Fault> {
     for partition in 0..config.partitions {
         let id = NodeId { replica, partition };
-        nodes.push(Node::new(alloc, config, 0, id))?;
+        nodes.push(Node::new(alloc, config, id))?;
     }
     Ok(())
 }
@@ -134,7 +134,7 @@ impl<L: Locks + Drop> Nodes<L> {
             return Err(Fault::NoNode);
         };
         let id = node.id();
-        match Node::from_durable(self.alloc, &self.config, 0, id, node.into_durable()) {
+        match Node::from_durable(self.alloc, &self.config, id, node.into_durable()) {
             Ok(node) => {
                 self.nodes.push(node)?;
                 Ok(())

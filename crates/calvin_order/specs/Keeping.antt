@@ -27,7 +27,6 @@ module _ {Args : Type 0} where
   abbrev pub history_of : ℕ → List (ℕ × Batch Args) → List ℕ → Sequencing Args
   history_of opening closed decided = record { opening = opening; queue = []; closed = closed; decided = decided; held_back = [] }
 
-  -- how many requests the batch closed for an epoch has
   abbrev pub closed_len : List (ℕ × Batch Args) → ℕ → ℕ
   closed_len closed e = length (unwrap_or (closed_in closed e) [])
 

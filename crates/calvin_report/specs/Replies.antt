@@ -51,6 +51,5 @@ module _ {Reply : Type 0} where
   abbrev pub of_epochs : Epochs → ByPlace Reply → ByPlace Reply
   of_epochs epochs replies = filter (λ e. is_told epochs e.0.epoch) replies
 
-  -- a line for each reply
   abbrev pub reply_lines : (Reply → List ℕ) → ByPlace Reply → List ℕ
   reply_lines show replies = flat_map (λ e. line show e.0 e.1.0 e.1.1) replies

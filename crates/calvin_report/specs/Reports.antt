@@ -54,7 +54,6 @@ least [] = None
 least (a ∷ others) = least_with a others
 
 module _ {Args Row : Type 0} where
-  -- the last epoch at whose end a node stands
   abbrev pub last_standing : NodeState Args Row → Option ℕ
   last_standing x = stands_at x.scheduler x.merged_epochs x.due
 
@@ -63,7 +62,6 @@ module _ {Args Row : Type 0} where
   line_of x = node_line x.id (last_standing x) (len x.scheduler.store.map)
 
 module _ {Args Row Reply : Type 0} where
-  -- a line for each node, replica by replica
   abbrev pub node_lines : WorldState Args Row Reply → List ℕ
   node_lines w = flat_map line_of w.nodes
 

@@ -44,7 +44,7 @@ fn told<L: Locks + Drop>(
     epochs: Epochs,
 ) -> Result<Vec<u8>, Fault> {
     let config = Config::new(1, 1)?;
-    let mut world: World<Kv, L, PlainRows<u64>> = World::new(alloc, &config, 0, Kv)?;
+    let mut world: World<Kv, L, PlainRows<u64>> = World::new(alloc, &config, Kv)?;
     let outcomes = world.run(events)?;
     let mut text = Vec::new(alloc);
     push_outcomes(&mut text, &outcomes)?;

@@ -125,6 +125,5 @@ module _ {Row : Type 0} where
   is_point_at n None = false
   is_point_at n (Some p) = eq_by_cmp place_cmp p.at (end_of n)
 
-  -- the rows of that point, or else the present ones
   abbrev pub rows_at : ℕ → Store Row → Rows Row
   rows_at n store = if is_point_at n store.point then rows_of store.point else store.map

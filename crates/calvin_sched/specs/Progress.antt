@@ -24,7 +24,6 @@ use Rattle.calvin_sched.specs.Standing.{local_places}
 use Rattle.calvin_sched.specs.Keeping.{Scheduled, Kept, turns_of}
 use Rattle.calvin_sched.specs.declared.progress.Progress.{Progress}
 
--- the places from the first one on that isn't done
 abbrev pub from_left : (Place → Bool) → List Place → List Place
 from_left done [] = []
 from_left done (q ∷ due) = if done q then from_left done due else q ∷ due
@@ -34,7 +33,6 @@ abbrev pub passes_first : (Place → Bool) → List Place → Bool
 passes_first done [] = false
 passes_first done (q ∷ due) = done q
 
--- the epoch of the first place, or else how many epochs are merged
 abbrev pub end_of_due : ℕ → List Place → ℕ
 end_of_due merged [] = merged
 end_of_due merged (q ∷ due) = q.epoch
@@ -44,12 +42,10 @@ abbrev pub Climbs : ℕ → ℕ → List Place → Type 0
 Climbs low high [] = low ≤ high
 Climbs low high (q ∷ due) = (low ≤ q.epoch) × Climbs q.epoch high due
 
--- there is the room that was reserved for places
 abbrev pub HasReserved : Progress → Type 0
 HasReserved p = deque_len p.due + p.room ≤ deque_capacity p.due
 
 module _ {Args Row : Type 0} where
-  -- the places that aren't done
   abbrev pub left : Scheduling Args Row → List Place → List Place
   left s due = filter (λ q. not (is_done s q)) due
 

@@ -34,8 +34,9 @@ where
     let config = Config {
         partitions: script.partitions,
         replicas: schedule.replicas,
+        delay: 0,
     };
-    let mut world = World::new(alloc, &config, 0, app)?;
+    let mut world = World::new(alloc, &config, app)?;
     submit_all(&mut world, script)?;
     draw_events(&mut world, &config, script.epochs.len(), schedule)?;
     bring_on(alloc, &mut world, &config, script.epochs.len() as u64)?;

@@ -95,7 +95,6 @@ module _ {B : Type 0} where
   handle size from (Refused slot ballot promise) x = refused x promise
   handle size from (Accepted slot ballot batch) x = accepted size from x slot ballot batch
 
-  -- a round is left for a new ballot
   abbrev pub has_round : Replica B → Bool
   has_round x = nat_lt (max x.proposer.used x.proposer.seen + 1) MOST_ROUNDS
 
@@ -106,7 +105,6 @@ module _ {B : Type 0} where
       then Does (record x { proposer = started me x.proposer slot batch }) (ToAll (Prepare slot (next_ballot me x.proposer))) None
       else Refuses RoundsSpent
 
-  -- a replica that has these promises and votes and has used rounds up to this one, and nothing else
   abbrev pub replica_from : Records B → ℕ → Replica B
   replica_from records used = record { acceptor = records; proposer = record { used = used; seen = 0; attempts = empty }; learner = record { counted = empty; given = empty } }
 

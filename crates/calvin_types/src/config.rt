@@ -1,26 +1,31 @@
-//! How many partitions and replicas a store has.
-ghost use Rattle.std.specs.Prelude.{◌≡◌, ◌<◌, ◌↔◌, IfOk, IsOk, IsOkUnless};
+//! How many partitions and replicas a store has, and for how long requests for cold rows are held back.
+ghost use Rattle.std.specs.Prelude.{◌≡◌, ◌<◌, ◌≤◌, ◌↔◌, IfOk, IsOk, IsOkUnless};
 ghost use Rattle.calvin_types.specs.Keys.{partition_of};
 ghost use Rattle.calvin_types.specs.Limits.{IsInRange};
+ghost use Rattle.calvin_types.specs.declared.limits.TheConstants.{MOST_DELAY};
 
 use crate::fault::Fault;
 use crate::key::Key;
-use crate::limits::{MOST_PARTITIONS, MOST_REPLICAS};
+use crate::limits::{MOST_DELAY, MOST_PARTITIONS, MOST_REPLICAS};
 
-/// The numbers of partitions (1 to 16) and of replicas (1 to 7). Each replica holds every partition, each on a node of
-/// its own (Thomson et al. 2012, section 3).
+/// The numbers of partitions (1 to 16) and of replicas (1 to 7), and the delay: for how many closings (0 to 16) a request that
+/// may touch cold rows is held back. Each replica holds every partition, each on a node of its own (Thomson et al. 2012,
+/// section 3; section 4: requests for rows on disk are delayed).
 #[derive(Clone, Copy, Debug, PartialEq, Eq)]
 pub struct Config {
     pub partitions: u8,
     pub replicas: u8,
+    pub delay: u8,
     ghost in_range: { IsInRange partitions replicas },
+    ghost delay_in_range: { delay ≤ MOST_DELAY },
 }
 
 impl Config {
-    /// The configuration with these numbers. Refused with `BadConfig` where either is outside its range.
+    /// The configuration with these numbers, and without delay. Refused with `BadConfig` where either is outside its range.
     pub fn new(partitions: u8, replicas: u8) -> Result<Config, Fault>
         ensures partitions { IfOk result (λ c. c.partitions ≡ partitions) }
         ensures replicas { IfOk result (λ c. c.replicas ≡ replicas) }
+        ensures delay { IfOk result (λ c. c.delay ≡ 0) }
         ensures ok { IsOk result ↔ IsInRange partitions replicas }
         ensures only { IsOkUnless result Fault.BadConfig }
     {
@@ -34,6 +39,25 @@ impl Config {
         Ok(Config {
             partitions,
             replicas,
+            delay: 0,
+        })
+    }
+
+    /// The same configuration with this delay. Refused with `BadConfig` where it is more than 16 closings.
+    pub fn with_delay(self, delay: u8) -> Result<Config, Fault>
+        ensures partitions { IfOk result (λ c. c.partitions ≡ self.partitions) }
+        ensures replicas { IfOk result (λ c. c.replicas ≡ self.replicas) }
+        ensures delay { IfOk result (λ c. c.delay ≡ delay) }
+        ensures ok { IsOk result ↔ (delay ≤ MOST_DELAY) }
+        ensures only { IsOkUnless result Fault.BadConfig }
+    {
+        if delay > MOST_DELAY {
+            return Err(Fault::BadConfig);
+        }
+        Ok(Config {
+            partitions: self.partitions,
+            replicas: self.replicas,
+            delay,
         })
     }
 

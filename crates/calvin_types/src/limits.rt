@@ -12,6 +12,9 @@ pub const MOST_PARTITIONS: u8 = 16;
 /// The most replicas.
 pub const MOST_REPLICAS: u8 = 7;
 
+/// The most closings for which a request that may touch cold rows is held back.
+pub const MOST_DELAY: u8 = 16;
+
 /// The most attempts at a request that an issuer makes.
 pub const MOST_ATTEMPTS: u8 = 8;
 

@@ -42,12 +42,6 @@ pub struct NodeId {
     pub partition: u8,
 }
 
-impl RoomKey for Place {
-    ghost use Rattle.calvin_types.specs.PlaceLaws.{place_exact};
-
-    ghost exact = { place_exact };
-}
-
 impl RoomKey for Slot {
     ghost use Rattle.calvin_types.specs.PlaceLaws.{slot_exact};
 

@@ -25,10 +25,11 @@ use Rattle.calvin_acts.specs.declared.act.Act.{Act}
 use Rattle.calvin_acts.specs.declared.act.Act.TheVariants.{Submit, SubmitCold, Cool, Close, Merge, Lock, Restart, Propose, Snapshot, Mark, Begin, Finish, AskForReads, AskForBatch}
 use Rattle.calvin_synod.specs.Cases.{message_grows}
 use Rattle.calvin_sched.specs.Scheduling.{is_read_here}
-use Rattle.calvin_acts.specs.Growing.{act_grows}
+use Rattle.calvin_acts.specs.Growing.{act_grows, content_grows}
 use Rattle.calvin_acts.specs.NodeStates.{NodeState}
 use Rattle.calvin_packets.specs.declared.packet.Packet.{Packet}
-use Rattle.calvin_packets.specs.declared.packet.Content.TheVariants.{Synod, Reads}
+use Rattle.calvin_packets.specs.declared.packet.Content.{Content}
+use Rattle.calvin_packets.specs.declared.packet.Content.TheVariants.{Synod, Decided, AskBatch, Reads, AskReads, Warm, Replies}
 use Rattle.calvin_packets.specs.Packets.{to_each, synod_packets, telling}
 use Rattle.calvin_world.proofs.Cases.{Handles, Acts}
 
@@ -39,9 +40,9 @@ module _ {Args Row Reply : Type 0} (m : Meaning Args Row Reply) (config : Config
   pub acts_silent : (act : Act Args) → act_grows config act x ≡ false → Acts m config act x next sent → sent ≡ []
   acts_silent (Submit t) h d = not_growing h
   acts_silent (SubmitCold t) h d = not_growing h
-  acts_silent (Cool k) h d = not_growing h
+  acts_silent (Cool k) h (e, f) = f
   acts_silent Close h d = not_growing h
-  acts_silent Restart h d = not_growing h
+  acts_silent Restart h (e, f) = f
   acts_silent (Propose n) h d = not_growing h
   acts_silent (Snapshot n) h d = not_growing h
   acts_silent (Finish q) h d = not_growing h
@@ -57,7 +58,7 @@ module _ {Args Row Reply : Type 0} (m : Meaning Args Row Reply) (config : Config
       let none : reads_here here j.request ≡ false = ap (λ (j : Turn Args Row). reads_here here j.request) (sym is) ∙ ap (is_read_here here) (sym b.has_turn) ∙ h in
       f ∙ ap (λ (r : Bool). cond r (to_each {Args = Args} {Row = Row} {Reply = Reply} x.id x.id.replica (Reads q j.served) (other_active here j.request)) []) none
 
-  pub message_silent : (from : NodeId) (message : Message (Batch Args)) → message_grows message ≡ false → Handles m config from (Synod message) x next sent → sent ≡ []
+  message_silent : (from : NodeId) (message : Message (Batch Args)) → message_grows message ≡ false → Handles m config from (Synod message) x next sent → sent ≡ []
   message_silent from (Prepare slot ballot) h d = not_growing h
   message_silent from (Promise slot ballot vote) h d = not_growing h
   message_silent from (Accept slot ballot batch) h d = not_growing h
@@ -71,3 +72,12 @@ module _ {Args Row Reply : Type 0} (m : Meaning Args Row Reply) (config : Config
           let none : None ≡ given = cc in
           λ i. synod_packets config.replicas x.id (sym quiet i) ++ telling config.partitions x.id (sym none i)
       go false does = absurd (cc)
+
+  pub content_silent : (from : NodeId) (content : Content Args Row Reply) → content_grows config content ≡ false → Handles m config from content x next sent → sent ≡ []
+  content_silent from (Synod message) h d = message_silent from message h d
+  content_silent from (Decided slot batch) h d = not_growing h
+  content_silent from (AskBatch slot) h d = not_growing h
+  content_silent from (Reads place rows) h (s, receives, e, f) = f
+  content_silent from (AskReads place) h d = not_growing h
+  content_silent from (Warm sets) h (e, f) = f
+  content_silent from (Replies place id attempt answer) h d = absurd d

@@ -45,6 +45,6 @@ module _ {Args Row Reply : Type 0} (m : Meaning Args Row Reply) (v : WorldState 
 
   -- a packet that is for this node
   pub delivery_called : (number : ℕ) (p : Packet Args Row Reply) → slice_get v.packets number ≡ Some p → p.to ≡ AtNode me → (result : Result (Unit {0}) Fault) (new : Running Args Row) (all : List (Packet Args Row Reply))
-      → NodeDid (content_grows p.content) result (handle v.config p x) (record { config = v.config; state = x }) new v.packets all → SettledStep m v (Deliver number) (outcome_of result) (called v me new.state all)
+      → NodeDid (content_grows v.config p.content) result (handle v.config p x) (record { config = v.config; state = x }) new v.packets all → SettledStep m v (Deliver number) (outcome_of result) (called v me new.state all)
   delivery_called number p sent to result new all did =
-      did_step (Deliver number) (content_grows p.content) result (handle v.config p x) new all (ap (deliver v) sent ∙ ap (deliver_to v p) to ∙ ap (at_node v me (handle v.config p)) there) (λ much. ap grows_by sent ∙ much) did
+      did_step (Deliver number) (content_grows v.config p.content) result (handle v.config p x) new all (ap (deliver v) sent ∙ ap (deliver_to v p) to ∙ ap (at_node v me (handle v.config p)) there) (λ much. ap (grows_by v.config) sent ∙ much) did

@@ -13,7 +13,6 @@ use Rattle.calvin_world.specs.Worlds.{WorldState, opening}
 use Rattle.calvin_world.specs.SettledWorlds.{SettledLeads}
 
 module _ {Args Row Reply : Type 0} where
-  -- the world of these nodes and packets
   abbrev pub world_of : Config → List (Running Args Row) → List (Packet Args Row Reply) → WorldState Args Row Reply
   world_of c nodes packets = record { config = c; nodes = map (λ n. n.state) nodes; packets = packets }
 
@@ -22,7 +21,6 @@ module _ {Args Row Reply : Type 0} where
   IsReached m w = (events : List (Event Args)) × (outcomes : List Outcome) × SettledLeads m (opening w.config) events outcomes w
 
 module _ {Args Row : Type 0} where
-  -- all nodes of a store that is opened with this
   pub record IsOpened (c : Config) (nodes : List (Running Args Row)) : Type 0 where
     pub number : length nodes ≡ c.replicas * c.partitions
     pub each : (i : ℕ) (n : Running Args Row) → slice_get nodes i ≡ Some n → n.config ≡ c

@@ -79,14 +79,14 @@ module _ {Args Row Reply : Type 0} where
   deliver w (Some p) = deliver_to w p p.to
 
   -- the packet grows something, if it is there
-  abbrev pub grows_by : Option (Packet Args Row Reply) → Bool
-  grows_by None = false
-  grows_by (Some p) = content_grows p.content
+  abbrev pub grows_by : Config → Option (Packet Args Row Reply) → Bool
+  grows_by c None = false
+  grows_by c (Some p) = content_grows c p.content
 
   -- where an event takes effect, it grows something
   abbrev pub grows : WorldState Args Row Reply → Event Args → Bool
   grows w (At me act) = grows_at (act_grows w.config act) (node_at w me)
-  grows w (Deliver number) = grows_by (slice_get w.packets number)
+  grows w (Deliver number) = grows_by w.config (slice_get w.packets number)
 
   module _ (m : Meaning Args Row Reply) where
     -- how an event ends, and the world after it

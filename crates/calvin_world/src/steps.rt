@@ -5,17 +5,14 @@ ghost use Rattle.calvin_types.specs.declared.fault.Fault.TheVariants.{NoPacket, 
 ghost use Rattle.calvin_types.specs.declared.place.NodeId.{NodeId};
 ghost use Rattle.calvin_types.specs.Deeds.{Refuses, Does};
 ghost use Rattle.calvin_app.specs.Meaning.{Meaning};
-ghost use Rattle.calvin_synod.specs.declared.message.Message.{Message};
-ghost use Rattle.calvin_synod.specs.Cases.{message_grows};
 ghost use Rattle.calvin_order.specs.Configs.{Config};
-ghost use Rattle.calvin_order.specs.Merged.{Batch};
 ghost use Rattle.calvin_packets.specs.declared.packet.Packet.{Packet};
-ghost use Rattle.calvin_packets.specs.declared.packet.Content.TheVariants.{Synod};
+ghost use Rattle.calvin_packets.specs.declared.packet.Content.{Content};
 ghost use Rattle.calvin_acts.specs.NodeStates.{NodeState};
 ghost use Rattle.calvin_acts.specs.Handling.{NodeDeed, handle_content};
 ghost use Rattle.calvin_acts.specs.declared.act.Act.{Act};
 ghost use Rattle.calvin_acts.specs.Acting.{lock, deed_of};
-ghost use Rattle.calvin_acts.specs.Growing.{act_grows};
+ghost use Rattle.calvin_acts.specs.Growing.{act_grows, content_grows};
 ghost use Rattle.calvin_world.specs.declared.event.Event.{Event};
 ghost use Rattle.calvin_world.specs.declared.event.Outcome.{Outcome};
 ghost use Rattle.calvin_world.specs.declared.event.Event.TheVariants.{Deliver};
@@ -37,8 +34,8 @@ pub fn pending_can_be_locked<A: App>()
         → (id : NodeId) (x : NodeState A.Args A.Row) → IsNode w id x → (fault : Fault) → ◌≡◌ {A = NodeDeed A.Args A.Row A.Reply} (lock w.config x) (Refuses fault) → (fault ≡ NothingToLock) × (x.pending ≡ []) }
 {}
 
-/// An act that grows nothing sends nothing where it takes effect; so does a message.
+/// An act that grows nothing sends nothing where it takes effect; so does what a packet says.
 pub fn what_grows_nothing_is_silent<Args, Row, Reply>()
     ensures acts { (m : Meaning Args Row Reply) (c : Config) (x next : NodeState Args Row) (sent : List (Packet Args Row Reply)) (act : Act Args) → act_grows c act x ≡ false → deed_of m c act x ≡ Does next sent → sent ≡ [] }
-    ensures messages { (m : Meaning Args Row Reply) (c : Config) (x next : NodeState Args Row) (sent : List (Packet Args Row Reply)) (from : NodeId) (message : Message (Batch Args)) → message_grows message ≡ false → ◌≡◌ {A = NodeDeed Args Row Reply} (handle_content c from (Synod message) x) (Does next sent) → sent ≡ [] }
+    ensures packets { (m : Meaning Args Row Reply) (c : Config) (x next : NodeState Args Row) (sent : List (Packet Args Row Reply)) (from : NodeId) (content : Content Args Row Reply) → content_grows c content ≡ false → ◌≡◌ {A = NodeDeed Args Row Reply} (handle_content c from content x) (Does next sent) → sent ≡ [] }
 {}

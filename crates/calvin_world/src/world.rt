@@ -26,7 +26,6 @@ pub struct World<A: App + Drop, L: Locks + Drop, S: Rows<A::Row> + Drop> {
     alloc: Global,
     app: A,
     config: Config,
-    delay: u8,
     nodes: Vec<Node<A, L, S>>,
     packets: Outbox<A>,
 }
@@ -42,29 +41,27 @@ impl<A: App + Drop, L: Locks + Drop, S: Rows<A::Row> + Drop> Model for World<A, 
 
     ghost coded = { Prim.hlevel (codes, code) };
 
-    ghost view = { λ w. world_of (config_of w.config.partitions w.config.replicas S.points S.cold w.delay) w.nodes.items w.packets.packets };
+    ghost view = { λ w. world_of (config_of w.config.partitions w.config.replicas S.points S.cold w.config.delay) w.nodes.items w.packets.packets };
 
-    ghost invariant = { λ w. IsOpened (config_of w.config.partitions w.config.replicas S.points S.cold w.delay) w.nodes.items
-        × IsReached A.meaning (world_of (config_of w.config.partitions w.config.replicas S.points S.cold w.delay) w.nodes.items w.packets.packets) };
+    ghost invariant = { λ w. IsOpened (config_of w.config.partitions w.config.replicas S.points S.cold w.config.delay) w.nodes.items
+        × IsReached A.meaning (world_of (config_of w.config.partitions w.config.replicas S.points S.cold w.config.delay) w.nodes.items w.packets.packets) };
 }
 
 impl<A: App + Drop, L: Locks + Drop, S: Rows<A::Row> + Drop> World<A, L, S> {
-    /// A store of new nodes, which have sent nothing. A request that may touch cold rows is held back for `delay` closings.
-    /// Refused with `OutOfMemory` where there was no room for the nodes.
-    pub fn new(alloc: Global, config: &Config, delay: u8, app: A) -> Result<World<A, L, S>, Fault>
-        ensures ok { IfOk result (λ w. w ≡ opening (config_of config.now.partitions config.now.replicas S.points S.cold delay)) }
+    /// A store of new nodes, which have sent nothing. Refused with `OutOfMemory` where there was no room for the nodes.
+    pub fn new(alloc: Global, config: &Config, app: A) -> Result<World<A, L, S>, Fault>
+        ensures ok { IfOk result (λ w. w ≡ opening (config_of config.now.partitions config.now.replicas S.points S.cold config.now.delay)) }
         ensures only { IsOkUnless result Fault.OutOfMemory }
     {
         let mut nodes = Vec::new(alloc);
         let number = config.replicas as usize * config.partitions as usize;
         for i in 0..number {
-            nodes.push(Node::new(alloc, config, delay, id_at(config, i)))?;
+            nodes.push(Node::new(alloc, config, id_at(config, i)))?;
         }
         Ok(World {
             alloc,
             app,
             config: *config,
-            delay,
             nodes,
             packets: Outbox::new(alloc),
         })

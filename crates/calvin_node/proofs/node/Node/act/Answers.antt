@@ -1,5 +1,5 @@
 use Rattle.std.proofs.Common.{true, false, sym, subst}
-use Rattle.calvin_acts.specs.declared.act.Act.TheVariants.{Merge, Lock}
+use Rattle.calvin_acts.specs.declared.act.Act.TheVariants.{Merge, Lock, Restart}
 use Rattle.calvin_acts.specs.Acting as acting
 use Rattle.calvin_acts.specs.Growing.{act_grows}
 use Rattle.calvin_acts.specs.Running.{NodeDid}
@@ -19,7 +19,7 @@ returns-in-Cool g c =
     let x = c.args.self.now in
     let reply = g.row.A-Reply.Denot in
     let sent = c.args.outbox.now.packets in
-    let did = quiet true c.cool.result (acting.cool_row {Reply = reply} x.config c.in-Cool.key x.state) x c.cool.new.self sent c.cool.ensures.did in
+    let did = quiet x.config.cold c.cool.result (acting.cool_row {Reply = reply} x.config c.in-Cool.key x.state) x c.cool.new.self sent c.cool.ensures.did in
     record { did = subst (λ k. NodeDid (act_grows x.config k x.state) c.cool.result (acting.deed_of g.A.App.meaning x.config k x.state) x c.cool.new.self sent sent) (sym c.in-Cool.is) did }
 
 pub returns-in-Close : goal.returns-in-Close
@@ -45,6 +45,14 @@ returns-in-Lock g c =
     let sent = c.args.outbox.now.packets in
     let did = quiet (act_grows x.config Lock x.state) c.lock_next.result (acting.lock {Reply = reply} x.config x.state) x c.lock_next.new.self sent c.lock_next.ensures.did in
     record { did = subst (λ k. NodeDid (act_grows x.config k x.state) c.lock_next.result (acting.deed_of g.A.App.meaning x.config k x.state) x c.lock_next.new.self sent sent) (sym c.in-Lock.is) did }
+
+pub returns-in-Restart : goal.returns-in-Restart
+returns-in-Restart g c =
+    let x = c.args.self.now in
+    let reply = g.row.A-Reply.Denot in
+    let sent = c.args.outbox.now.packets in
+    let did = quiet (act_grows x.config Restart x.state) c.restart.result (acting.restart {Reply = reply} x.state) x c.restart.new.self sent c.restart.ensures.did in
+    record { did = subst (λ k. NodeDid (act_grows x.config k x.state) c.restart.result (acting.deed_of g.A.App.meaning x.config k x.state) x c.restart.new.self sent sent) (sym c.in-Restart.is) did }
 
 pub returns-in-Propose : goal.returns-in-Propose
 returns-in-Propose g c =

@@ -1,4 +1,4 @@
-use Rattle.std.proofs.Common.{true, sym, subst}
+use Rattle.std.proofs.Common.{true, false, sym, subst}
 use Rattle.std.specs.FinMap as map
 use Rattle.calvin_sched.specs.Steps as steps
 use Rattle.calvin_acts.specs.Growing.{content_grows}
@@ -12,7 +12,7 @@ pub returns-in-Synod : goal.returns-in-Synod
 returns-in-Synod g c =
     let x = c.args.self.now in
     let sent = c.args.outbox.now.packets in
-    record { did = subst (λ k. NodeDid (content_grows k) c.on_synod.result (handling.handle_content x.config c.args.from k x.state) x c.on_synod.new.self sent c.on_synod.new.outbox.packets) (sym c.in-Synod.is) c.on_synod.ensures.did }
+    record { did = subst (λ k. NodeDid (content_grows x.config k) c.on_synod.result (handling.handle_content x.config c.args.from k x.state) x c.on_synod.new.self sent c.on_synod.new.outbox.packets) (sym c.in-Synod.is) c.on_synod.ensures.did }
 
 pub returns-in-Decided : goal.returns-in-Decided
 returns-in-Decided g c =
@@ -20,24 +20,24 @@ returns-in-Decided g c =
     let reply = g.row.A-Reply.Denot in
     let sent = c.args.outbox.now.packets in
     let did = quiet true c.on_decided.result (handling.on_decided {Reply = reply} c.in-Decided.slot c.in-Decided.batch x.state (map.get x.state.held c.in-Decided.slot)) x c.on_decided.new.self sent c.on_decided.ensures.did in
-    record { did = subst (λ k. NodeDid (content_grows k) c.on_decided.result (handling.handle_content x.config c.args.from k x.state) x c.on_decided.new.self sent sent) (sym c.in-Decided.is) did }
+    record { did = subst (λ k. NodeDid (content_grows x.config k) c.on_decided.result (handling.handle_content x.config c.args.from k x.state) x c.on_decided.new.self sent sent) (sym c.in-Decided.is) did }
 
 pub returns-in-AskBatch : goal.returns-in-AskBatch
 returns-in-AskBatch g c =
     let x = c.args.self.now in
     let sent = c.args.outbox.now.packets in
-    record { did = subst (λ k. NodeDid (content_grows k) c.on_ask_batch.result (handling.handle_content x.config c.args.from k x.state) x c.args.self.now sent c.on_ask_batch.new.outbox.packets) (sym c.in-AskBatch.is) c.on_ask_batch.ensures.did }
+    record { did = subst (λ k. NodeDid (content_grows x.config k) c.on_ask_batch.result (handling.handle_content x.config c.args.from k x.state) x c.args.self.now sent c.on_ask_batch.new.outbox.packets) (sym c.in-AskBatch.is) c.on_ask_batch.ensures.did }
 
 pub returns-in-Reads : goal.returns-in-Reads
 returns-in-Reads g c =
     let x = c.args.self.now in
     let reply = g.row.A-Reply.Denot in
     let sent = c.args.outbox.now.packets in
-    let did = quiet true c.on_reads.result (handling.by_scheduler {Reply = reply} x.state (steps.on_reads (site_of x.config.partitions x.state) c.in-Reads.place c.args.from.partition c.in-Reads.rows x.state.scheduler)) x c.on_reads.new.self sent c.on_reads.ensures.did in
-    record { did = subst (λ k. NodeDid (content_grows k) c.on_reads.result (handling.handle_content x.config c.args.from k x.state) x c.on_reads.new.self sent sent) (sym c.in-Reads.is) did }
+    let did = quiet false c.on_reads.result (handling.by_scheduler {Reply = reply} x.state (steps.on_reads (site_of x.config.partitions x.state) c.in-Reads.place c.args.from.partition c.in-Reads.rows x.state.scheduler)) x c.on_reads.new.self sent c.on_reads.ensures.did in
+    record { did = subst (λ k. NodeDid (content_grows x.config k) c.on_reads.result (handling.handle_content x.config c.args.from k x.state) x c.on_reads.new.self sent sent) (sym c.in-Reads.is) did }
 
 pub returns-in-AskReads : goal.returns-in-AskReads
 returns-in-AskReads g c =
     let x = c.args.self.now in
     let sent = c.args.outbox.now.packets in
-    record { did = subst (λ k. NodeDid (content_grows k) c.on_ask_reads.result (handling.handle_content x.config c.args.from k x.state) x c.args.self.now sent c.on_ask_reads.new.outbox.packets) (sym c.in-AskReads.is) c.on_ask_reads.ensures.did }
+    record { did = subst (λ k. NodeDid (content_grows x.config k) c.on_ask_reads.result (handling.handle_content x.config c.args.from k x.state) x c.args.self.now sent c.on_ask_reads.new.outbox.packets) (sym c.in-AskReads.is) c.on_ask_reads.ensures.did }

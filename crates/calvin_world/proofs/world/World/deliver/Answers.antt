@@ -53,13 +53,13 @@ returns-in_default-index g c =
 pub invariant_of-self : goal.invariant_of-self
 invariant_of-self g c =
     let p = c.self.inside in
-    let config = config_of p.config.partitions p.config.replicas g.S.Rows.points g.S.Rows.cold p.delay in
+    let config = config_of p.config.partitions p.config.replicas g.S.Rows.points g.S.Rows.cold p.config.delay in
     (c.self.invariant.0, subst (λ l. IsReached g.A.App.meaning (world_of config p.nodes.items l)) (sym c.in_default-lend.ensures.1) c.self.invariant.1)
 
 pub returns-in_default-lend : goal.returns-in_default-lend
 returns-in_default-lend g c =
     let p = c.self.inside in
-    let config = config_of p.config.partitions p.config.replicas g.S.Rows.points g.S.Rows.cold p.delay in
+    let config = config_of p.config.partitions p.config.replicas g.S.Rows.points g.S.Rows.cold p.config.delay in
     let number = c.args.number in
     let reached = subst (λ w. IsReached g.A.App.meaning w) c.self.view_is c.self.invariant.1 in
     let none = subst (λ w. slice_get w.packets number ≡ None) c.self.view_is c.in_default-lend.ensures.0 in
@@ -69,7 +69,7 @@ returns-in_default-lend g c =
 pub invariant_of-self-2 : goal.invariant_of-self-2
 invariant_of-self-2 g c =
     let p = c.self.inside in
-    let config = config_of p.config.partitions p.config.replicas g.S.Rows.points g.S.Rows.cold p.delay in
+    let config = config_of p.config.partitions p.config.replicas g.S.Rows.points g.S.Rows.cold p.config.delay in
     let at = c.in-Some.at in
     let within = subst (λ (n : ℕ). at < n) (ap (λ w. length w.nodes) (sym c.self.view_is) ∙ length-map p.nodes.items (λ (n : Running g.row.A-Args.Denot g.row.A-Row.Denot). n.state)) c.in-Some.ensures.1 in
     let there = slice_get-get_or p.nodes.items at c.index_mut.result.now within ∙ ap Some (sym c.index_mut.ensures.value) in
@@ -80,14 +80,14 @@ invariant_of-self-2 g c =
     let to = to_node c.packets-packets.result.now p.packets.packets c.packets-packets.ensures c.args.number _ packet c.if-number-packets.false lent.0 c.in-AtNode.id c.in-AtNode.is in
     let x = c.index_mut.result.now in
     let all = c.handle-result.new.outbox.packets in
-    let did = subst (λ s. NodeDid (content_grows packet.content) c.handle-result.result (handle x.config packet x.state) x c.handle-result.new.self s all) lent.2 c.handle-result.ensures.did in
+    let did = subst (λ s. NodeDid (content_grows x.config packet.content) c.handle-result.result (handle x.config packet x.state) x c.handle-result.new.self s all) lent.2 c.handle-result.ensures.did in
     subst (λ l. IsOpened config (slice_set p.nodes.items at c.handle-result.new.self) × IsReached g.A.App.meaning (world_of config (slice_set p.nodes.items at c.handle-result.new.self) l)) (sym c.put_back.ensures)
     (delivered_kept g.A.App.meaning config p.nodes.items p.packets.packets c.self.invariant.0 c.self.invariant.1 c.in-AtNode.id at at_is found x c.handle-result.new.self there c.args.number packet lent.1 lent.0 to c.handle-result.result all did)
 
 pub returns : goal.returns
 returns g c =
     let p = c.self.inside in
-    let config = config_of p.config.partitions p.config.replicas g.S.Rows.points g.S.Rows.cold p.delay in
+    let config = config_of p.config.partitions p.config.replicas g.S.Rows.points g.S.Rows.cold p.config.delay in
     let at = c.in-Some.at in
     let within = subst (λ (n : ℕ). at < n) (ap (λ w. length w.nodes) (sym c.self.view_is) ∙ length-map p.nodes.items (λ (n : Running g.row.A-Args.Denot g.row.A-Row.Denot). n.state)) c.in-Some.ensures.1 in
     let there = slice_get-get_or p.nodes.items at c.index_mut.result.now within ∙ ap Some (sym c.index_mut.ensures.value) in
@@ -98,7 +98,7 @@ returns g c =
     let to = to_node c.packets-packets.result.now p.packets.packets c.packets-packets.ensures c.args.number _ packet c.if-number-packets.false lent.0 c.in-AtNode.id c.in-AtNode.is in
     let x = c.index_mut.result.now in
     let all = c.handle-result.new.outbox.packets in
-    let did = subst (λ s. NodeDid (content_grows packet.content) c.handle-result.result (handle x.config packet x.state) x c.handle-result.new.self s all) lent.2 c.handle-result.ensures.did in
+    let did = subst (λ s. NodeDid (content_grows x.config packet.content) c.handle-result.result (handle x.config packet x.state) x c.handle-result.new.self s all) lent.2 c.handle-result.ensures.did in
     subst (λ w. SettledStep g.A.App.meaning w (Deliver c.args.number) (outcome_of c.handle-result.result) (world_of config (slice_set p.nodes.items at c.handle-result.new.self) c.put_back.new.self.packets)) c.self.view_is
     (subst (λ l. SettledStep g.A.App.meaning (world_of config p.nodes.items p.packets.packets) (Deliver c.args.number) (outcome_of c.handle-result.result) (world_of config (slice_set p.nodes.items at c.handle-result.new.self) l)) (sym c.put_back.ensures)
     (delivered g.A.App.meaning config p.nodes.items p.packets.packets c.self.invariant.0 c.self.invariant.1 c.in-AtNode.id at at_is found x c.handle-result.new.self there c.args.number packet lent.1 lent.0 to c.handle-result.result all did))

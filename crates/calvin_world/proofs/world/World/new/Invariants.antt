@@ -6,4 +6,4 @@ use Rattle.calvin_world.proofs.InCode.{at_first}
 use Rattle.calvin_world.proofs.world.World.new.Given as goal
 
 abbrev pub invariant-loop-i : goal.invariant-loop-i
-invariant-loop-i g l = l.nodes.items ≡ map (at_first (config_of l.config.partitions l.config.replicas g.S.Rows.points g.S.Rows.cold l.delay)) (range_with_len 0 l.i)
+invariant-loop-i g l = l.nodes.items ≡ map (at_first (config_of l.config.partitions l.config.replicas g.S.Rows.points g.S.Rows.cold l.config.delay)) (range_with_len 0 l.i)
