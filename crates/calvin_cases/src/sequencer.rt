@@ -56,7 +56,7 @@ fn closes(
 }
 
 #[test]
-fn limits_of_a_queue(rt: HostRuntime) -> Result<(), Fail> {
+fn limits(rt: HostRuntime) -> Result<(), Fail> {
     let alloc = rt.alloc();
     let mut sequencer = Sequencer::new(alloc, 0);
     submit_many(alloc, &mut sequencer, 0, 4096)?;

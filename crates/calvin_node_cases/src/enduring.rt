@@ -1,231 +1,321 @@
-//! A life of two nodes, with every message and every event that plain rows take, in which what is refused for want of memory
-//! is tried again. With ample memory nothing is refused. `rt try --test --fail-alloc N` refuses the Nth allocation of a test:
-//! for each N from 1 until `nothing_refused` passes, `refused_once` has to pass.
+//! Lives of nodes in which what is refused for want of memory is tried again, and one of them: that of the two partitions of a
+//! replica. Here and in the life of three replicas (`voting_life`) every message and every event has effect, those at a
+//! majority and those below it, but two: plain rows have no points and no cold table, so a mark (56) and a row that is to cool
+//! (55, 57) are refused. With ample memory nothing else is. `rt try --test --fail-alloc N` refuses the Nth allocation of a
+//! test: for each N from 1 until `nothing_refused` passes, `refused_once` has to pass.
 use crate::nodes::{Nodes, Step, number_of};
-use crate::shown::{place, request};
+use crate::scarce::ScarceRows;
+use crate::shown::key;
 use calvin_app::KvRequest;
-use calvin_lock::{Locks, QueueLocks};
-use calvin_node::Act;
-use calvin_store::Rows;
-use calvin_types::{Fault, NodeId, Place, Slot};
+use calvin_lock::QueueLocks;
+use calvin_store::{PlainRows, Rows};
+use calvin_types::{Config, Fault, KeySet, NodeId, Place, Slot};
 use std::alloc::Global;
 use std::process::Abort;
 use std::test::Fail;
 
-/// What a node tells of itself, and how many packets were sent.
-#[derive(Clone, Copy, PartialEq, Eq)]
-struct Told {
-    next_epoch: Option<u64>,
-    queued: usize,
-    held: u8,
-    ready: Option<Place>,
-    stands: Option<u64>,
-    rows: usize,
-    packets: usize,
-}
+/// Nodes whose rows are plain ones that are refused a load by one growth.
+type ScarceNodes = Nodes<QueueLocks, ScarceRows<PlainRows<u64>>>;
 
-/// How many batches of epochs 0 and 1 a node of two partitions holds.
-fn held<L: Locks + Drop>(nodes: &Nodes<L>, number: usize) -> Result<u8, Fault> {
-    let node = nodes.node(number)?;
-    let mut held: u8 = 0;
-    for (epoch, group) in [(0, 0), (0, 1), (1, 0), (1, 1)] {
-        if node.held(Slot { epoch, group }).is_some() {
-            held = held.saturating_add(1);
-        }
-    }
-    Ok(held)
-}
-
-fn tell<L: Locks + Drop>(nodes: &Nodes<L>, number: usize) -> Result<Told, Fault> {
-    let node = nodes.node(number)?;
-    Ok(Told {
-        next_epoch: node.next_epoch(),
-        queued: node.queued(),
-        held: held(nodes, number)?,
-        ready: node.first_ready(None),
-        stands: node.stands_at(),
-        rows: node.rows().len(),
-        packets: nodes.packets().len(),
-    })
-}
-
-/// Nodes 0 and 1, the two partitions of one replica, and how often memory was refused.
+/// Nodes to which events happen; others, to which those with effect happen afterwards, so that until then they are what the
+/// first ones were before; for how many more packets there is memory at each event; and how often memory was refused.
 #[derive(Drop)]
-struct Life {
-    nodes: Nodes<QueueLocks>,
+pub(crate) struct Life {
+    nodes: ScarceNodes,
+    others: ScarceNodes,
+    room: usize,
     refused: usize,
 }
 
 impl Life {
+    /// No event has happened yet.
+    fn new(alloc: Global, config: Config, room: usize) -> Result<Life, Fault> {
+        Ok(Life {
+            nodes: Nodes::of(alloc, config)?,
+            others: Nodes::of(alloc, config)?,
+            room,
+            refused: 0,
+        })
+    }
+
     /// The nodes are opened, if not at once then with memory.
-    fn open(alloc: Global) -> Result<Life, Fault> {
-        match Nodes::new(alloc, 2, 1) {
-            Ok(nodes) => Ok(Life { nodes, refused: 0 }),
-            Err(_refused) => Ok(Life {
-                nodes: Nodes::new(alloc, 2, 1)?,
-                refused: 1,
-            }),
+    pub(crate) fn open(alloc: Global, config: Config, room: usize) -> Result<Life, Fault> {
+        match Life::new(alloc, config, room) {
+            Ok(life) => Ok(life),
+            Err(_refused) => {
+                let mut life = Life::new(alloc, config, room)?;
+                life.refused = 1;
+                Ok(life)
+            }
         }
     }
 
-    fn tell(&self) -> Result<(Told, Told), Fault> {
-        Ok((tell(&self.nodes, 0)?, tell(&self.nodes, 1)?))
+    /// The nodes, to be asked.
+    pub(crate) fn nodes(&self) -> &ScarceNodes {
+        &self.nodes
     }
 
-    /// Memory was refused, and the nodes tell what they told before.
-    fn note_refusal(&mut self, rt: &impl Abort, before: (Told, Told)) -> Result<(), Fault> {
-        self.refused = self.refused.saturating_add(1);
-        assert!(rt; self.tell()? == before);
-        Ok(())
+    /// Memory was never refused.
+    pub(crate) fn check_unrefused(&self, rt: &impl Abort) {
+        assert_eq!(rt; self.refused, 0);
+    }
+
+    /// The nodes tell the same as the others, and have sent the same packets.
+    fn check_alike(&self, rt: &impl Abort) {
+        assert!(rt; self.nodes.is_alike(&self.others));
+    }
+
+    /// The outbox has memory for no more packets than is said, if not at once then with memory.
+    fn leave_room(&mut self, rt: &impl Abort) {
+        if self.nodes.leave_room(self.room).is_err() {
+            self.refused = self.refused.saturating_add(1);
+            assert!(rt; self.nodes.leave_room(self.room).is_ok());
+        }
+    }
+
+    /// What takes effect at the nodes does so at the others too, if not at once then with memory.
+    fn follow(&mut self, rt: &impl Abort, step: &Step) {
+        let mut refusal = number_of(self.others.step(step));
+        if refusal == 1 {
+            self.refused = self.refused.saturating_add(1);
+            refusal = number_of(self.others.step(step));
+        }
+        assert_eq!(rt; refusal, 0);
     }
 
     /// An event takes effect, if not at once then with memory: a refusal for want of it changes nothing.
-    fn endure(&mut self, rt: &impl Abort, step: &Step) -> Result<(), Fault> {
-        let before = self.tell()?;
+    fn endure(&mut self, rt: &impl Abort, step: &Step) {
+        self.leave_room(rt);
         let mut refusal = number_of(self.nodes.step(step));
         if refusal == 1 {
-            self.note_refusal(rt, before)?;
+            self.refused = self.refused.saturating_add(1);
+            self.check_alike(rt);
             refusal = number_of(self.nodes.step(step));
         }
         assert_eq!(rt; refusal, 0);
-        Ok(())
-    }
-
-    /// The same for an event of node 0, by its name.
-    fn endure_act(&mut self, rt: &impl Abort, act: &Act<KvRequest>) -> Result<(), Fault> {
-        let before = self.tell()?;
-        let mut refusal = number_of(self.nodes.act(0, act));
-        if refusal == 1 {
-            self.note_refusal(rt, before)?;
-            refusal = number_of(self.nodes.act(0, act));
-        }
-        assert_eq!(rt; refusal, 0);
-        Ok(())
+        self.follow(rt, step);
+        self.check_alike(rt);
     }
 
     /// Events take effect one after another.
-    fn endure_all(&mut self, rt: &impl Abort, steps: &[Step]) -> Result<(), Fault> {
+    pub(crate) fn endure_all(&mut self, rt: &impl Abort, steps: &[Step]) {
         for step in steps {
-            self.endure(rt, step)?;
+            self.endure(rt, step);
         }
-        Ok(())
     }
 
     /// The packets from one number on and before another are delivered, and each takes effect.
-    fn deliver(&mut self, rt: &impl Abort, first: usize, last: usize) -> Result<(), Fault> {
+    pub(crate) fn deliver(&mut self, rt: &impl Abort, first: usize, last: usize) {
         for number in first..last {
-            self.endure(rt, &Step::Deliver(number))?;
+            self.endure(rt, &Step::Deliver(number));
         }
-        Ok(())
     }
 
-    /// Epoch 0: 10 is put under key 1. Packet 0 warms, 3 is the refusal of a prepare that came twice, 6 and 11 tell the decided
-    /// batches, of which the latter is lost and asked for, and 14 is the reply.
-    fn live_epoch_zero(&mut self, rt: &impl Abort) -> Result<(), Fault> {
-        let put = KvRequest::Put(1, 10);
-        self.endure_act(rt, &Act::SubmitCold(request(1, put)))?;
-        self.endure_all(rt, &[Step::Deliver(0), Step::Close(0), Step::Propose(0, 0)])?;
-        self.endure_all(rt, &[Step::Deliver(1), Step::Deliver(1), Step::Deliver(2)])?;
-        self.nodes.refuse(rt, Step::Deliver(3), 21);
-        self.deliver(rt, 4, 7)?;
-        self.endure_all(rt, &[Step::Close(1), Step::Propose(1, 0)])?;
-        self.deliver(rt, 7, 11)?;
-        let of = NodeId {
-            replica: 0,
-            partition: 1,
-        };
-        let slot = Slot { epoch: 0, group: 1 };
-        self.endure_all(rt, &[Step::AskBatch(0, slot, of)])?;
-        self.deliver(rt, 12, 14)
+    /// Events are refused, each with its number and for no want of memory, and change nothing.
+    pub(crate) fn refuse_all(&mut self, rt: &impl Abort, steps: &[(Step, u8)]) {
+        for (step, number) in steps {
+            self.leave_room(rt);
+            assert_eq!(rt; number_of(self.nodes.step(step)), *number);
+            self.check_alike(rt);
+        }
     }
 
-    /// The request of epoch 0 is run, and snapshots are taken.
-    fn run_epoch_zero(&mut self, rt: &impl Abort) -> Result<(), Fault> {
-        let at = place(0, 0);
-        self.endure_all(
-            rt,
-            &[
-                Step::Merge(0),
-                Step::Merge(1),
-                Step::Lock(0),
-                Step::Lock(1),
-                Step::Begin(1, at),
-                Step::Finish(1, at),
-                Step::Snapshot(0, 0),
-                Step::Snapshot(1, 0),
-            ],
-        )
+    /// A node has this row for the key of a number.
+    pub(crate) fn check_row(&self, rt: &impl Abort, number: usize, id: u64, row: u64) {
+        match self.nodes.node(number) {
+            Ok(node) => assert_eq!(rt; node.rows().get(&key(id)), Some(row), "node {number}"),
+            Err(_fault) => assert!(rt; false, "node {number}"),
+        }
     }
+}
 
-    /// Epoch 1: 4 are moved to key 2. The packets 15 to 19 and 20 to 24 are those of the two batches.
-    fn live_epoch_one(&mut self, rt: &impl Abort) -> Result<(), Fault> {
-        let moved = KvRequest::Move(1, 2, 4);
-        self.endure_all(
-            rt,
-            &[
-                Step::Submit(0, 2, moved),
-                Step::Close(0),
-                Step::Propose(0, 1),
-            ],
-        )?;
-        self.deliver(rt, 15, 20)?;
-        self.endure_all(rt, &[Step::Close(1), Step::Propose(1, 1)])?;
-        self.deliver(rt, 20, 25)
-    }
+/// The two nodes, which have the numbers of their partitions. Key 2 is stored at node 0, key 1 at node 1.
+const NODES: [NodeId; 2] = [
+    NodeId {
+        replica: 0,
+        partition: 0,
+    },
+    NodeId {
+        replica: 0,
+        partition: 1,
+    },
+];
 
-    /// The request of epoch 1 is run. Packet 25 brings node 1 its rows; 26, with those for node 0, is lost, and they are asked for.
-    fn run_epoch_one(&mut self, rt: &impl Abort) -> Result<(), Fault> {
-        let at = place(1, 0);
-        self.endure_all(
-            rt,
-            &[
-                Step::Merge(0),
-                Step::Merge(1),
-                Step::Lock(0),
-                Step::Lock(1),
-                Step::Begin(0, at),
-                Step::Begin(1, at),
-                Step::Deliver(25),
-                Step::AskReads(0, at, 0),
-            ],
-        )?;
-        self.deliver(rt, 27, 29)?;
-        self.endure_all(
-            rt,
-            &[
-                Step::Finish(0, at),
-                Step::Finish(1, at),
-                Step::Snapshot(0, 1),
-            ],
-        )
-    }
+/// What is put in epoch 0, and what is moved in epoch 1: node 0 takes the move before, and holds it back for a closing.
+const PUT: KvRequest = KvRequest::Put(1, 10);
 
-    /// Both epochs. The nodes stand at the last one, and come back from their snapshots.
-    fn live(&mut self, rt: &impl Abort) -> Result<(), Fault> {
-        self.live_epoch_zero(rt)?;
-        self.run_epoch_zero(rt)?;
-        self.live_epoch_one(rt)?;
-        self.run_epoch_one(rt)?;
-        self.nodes.check_stands(rt, 0, Some(1), 1);
-        self.nodes.check_stands(rt, 1, Some(1), 1);
-        assert_eq!(rt; self.nodes.packets().len(), 31);
-        self.endure_all(rt, &[Step::Restart(0), Step::Restart(1)])?;
-        self.nodes.check_stands(rt, 0, Some(1), 1);
-        self.nodes.check_stands(rt, 1, Some(0), 1);
-        Ok(())
+const MOVE: KvRequest = KvRequest::Move(1, 2, 4);
+
+/// Where they are run.
+const FIRST: Place = Place { epoch: 0, n: 0 };
+
+const SECOND: Place = Place { epoch: 1, n: 0 };
+
+fn slot(epoch: u64, group: u8) -> Slot {
+    Slot { epoch, group }
+}
+
+/// A request that declares no key.
+fn without_keys() -> KvRequest {
+    KvRequest::Get(KeySet::new())
+}
+
+/// What comes too early, or has no node, group, replica or key.
+fn too_early(life: &mut Life, rt: &impl Abort) {
+    life.refuse_all(
+        rt,
+        &[
+            (Step::Submit(0, 1, without_keys()), 31),
+            (Step::SubmitCold(0, 1, without_keys()), 31),
+            (Step::Propose(0, 0), 35),
+            (Step::Merge(0), 34),
+            (Step::Lock(0), 48),
+            (Step::Begin(0, FIRST), 41),
+            (Step::Finish(0, FIRST), 41),
+            (Step::Run(0, FIRST), 41),
+            (Step::Snapshot(0, 0), 50),
+            (Step::AskReads(0, FIRST, 0), 43),
+            (Step::AskReads(0, FIRST, 1), 60),
+            (Step::AskBatch(0, slot(0, 2), NODES[1]), 60),
+            (Step::Mark(0, 0), 56),
+            (Step::Cool(0, 2), 55),
+        ],
+    );
+}
+
+/// Epoch 0: the packets 0 and 1 warm, 4 is the refusal of a prepare that came twice, 7 and 12 tell the decided batches, of
+/// which the latter is lost and asked for.
+fn agree_on_the_put(life: &mut Life, rt: &impl Abort) {
+    life.endure_all(rt, &[Step::SubmitCold(0, 2, MOVE), Step::Submit(0, 1, PUT)]);
+    life.deliver(rt, 0, 2);
+    life.endure_all(rt, &[Step::Close(0), Step::Propose(0, 0)]);
+    life.endure_all(rt, &[Step::Deliver(2), Step::Deliver(2), Step::Deliver(3)]);
+    life.refuse_all(rt, &[(Step::Deliver(3), 21), (Step::Deliver(4), 21)]);
+    life.deliver(rt, 5, 8);
+    life.endure_all(rt, &[Step::Close(1), Step::Propose(1, 0)]);
+    life.deliver(rt, 8, 12);
+    life.endure_all(rt, &[Step::AskBatch(0, slot(0, 1), NODES[1])]);
+    life.deliver(rt, 13, 15);
+    life.refuse_all(
+        rt,
+        &[
+            (Step::Deliver(6), 22),
+            (Step::Deliver(12), 22),
+            (Step::Propose(0, 0), 36),
+            (Step::AskBatch(0, slot(0, 1), NODES[1]), 22),
+        ],
+    );
+}
+
+/// The put is run by node 1, whose reply is packet 15, and node 0 passes over it. Snapshots are taken.
+fn run_the_put(life: &mut Life, rt: &impl Abort) {
+    life.endure_all(
+        rt,
+        &[
+            Step::Merge(0),
+            Step::Merge(1),
+            Step::Lock(0),
+            Step::Lock(1),
+            Step::Begin(1, FIRST),
+            Step::Run(1, FIRST),
+            Step::Snapshot(0, 0),
+            Step::Snapshot(1, 0),
+        ],
+    );
+    life.refuse_all(
+        rt,
+        &[
+            (Step::Begin(1, FIRST), 42),
+            (Step::Finish(1, FIRST), 41),
+            (Step::Run(1, FIRST), 41),
+            (Step::Snapshot(1, 0), 51),
+            (Step::Mark(1, 0), 56),
+            (Step::Cool(1, 1), 57),
+            (Step::Deliver(15), 52),
+        ],
+    );
+}
+
+/// Epoch 1: the packets 16 to 20 and 21 to 25 are those of the two batches. Packet 26 brings node 1 its rows; 27, with those
+/// for node 0, is lost, and they are asked for. The replies are packets 30 and 31.
+fn live_epoch_one(life: &mut Life, rt: &impl Abort) {
+    life.endure_all(rt, &[Step::Close(0), Step::Propose(0, 1)]);
+    life.deliver(rt, 16, 21);
+    life.endure_all(rt, &[Step::Close(1), Step::Propose(1, 1)]);
+    life.deliver(rt, 21, 26);
+    life.endure_all(rt, &[Step::Merge(0), Step::Merge(1)]);
+    life.endure_all(rt, &[Step::Lock(0), Step::Lock(1)]);
+    life.endure_all(rt, &[Step::Begin(0, SECOND), Step::Begin(1, SECOND)]);
+    life.deliver(rt, 26, 27);
+    life.refuse_all(
+        rt,
+        &[
+            (Step::Deliver(26), 43),
+            (Step::Finish(0, SECOND), 44),
+            (Step::Run(0, SECOND), 44),
+            (Step::Snapshot(0, 1), 50),
+        ],
+    );
+    life.endure_all(rt, &[Step::AskReads(0, SECOND, 0)]);
+    life.deliver(rt, 28, 30);
+    life.endure_all(rt, &[Step::Finish(0, SECOND), Step::Run(1, SECOND)]);
+    life.endure_all(rt, &[Step::Snapshot(0, 1)]);
+}
+
+/// Node 1 comes back with the rows of epoch 0, is opened from its record, and replays epoch 1: it asks node 0 for the batches
+/// with the packets 32 and 33, and for rows with packet 37. Its rows for node 0 are packet 36, its reply packet 39.
+fn come_back(life: &mut Life, rt: &impl Abort) {
+    life.endure_all(rt, &[Step::Restart(1), Step::Reopen]);
+    life.nodes.check_stands(rt, 1, Some(0), 1);
+    life.check_row(rt, 1, 1, 10);
+    life.endure_all(
+        rt,
+        &[
+            Step::AskBatch(1, slot(1, 0), NODES[0]),
+            Step::AskBatch(1, slot(1, 1), NODES[0]),
+        ],
+    );
+    life.deliver(rt, 32, 36);
+    life.endure_all(rt, &[Step::Merge(1), Step::Lock(1), Step::Begin(1, SECOND)]);
+    life.refuse_all(rt, &[(Step::Deliver(36), 43)]);
+    life.endure_all(rt, &[Step::AskReads(1, SECOND, 0)]);
+    life.deliver(rt, 37, 39);
+    life.endure_all(rt, &[Step::Finish(1, SECOND), Step::Restart(0)]);
+    life.refuse_all(rt, &[(Step::Deliver(37), 47), (Step::Deliver(33), 23)]);
+}
+
+/// Both nodes stand at the end of epoch 1 with what was put and moved, and so many packets were sent.
+fn check_end(life: &Life, rt: &impl Abort, packets: usize) {
+    for number in 0..2 {
+        life.nodes.check_stands(rt, number, Some(1), 1);
     }
+    life.check_row(rt, 0, 2, 4);
+    life.check_row(rt, 1, 1, 6);
+    assert_eq!(rt; life.nodes.packets().len(), packets);
+}
+
+/// Two epochs of two nodes. There is no memory for a packet.
+fn live(rt: &impl Abort, alloc: Global) -> Result<Life, Fault> {
+    let config = Config::new(2, 1)?.with_delay(1)?;
+    let mut life = Life::open(alloc, config, 0)?;
+    too_early(&mut life, rt);
+    agree_on_the_put(&mut life, rt);
+    run_the_put(&mut life, rt);
+    live_epoch_one(&mut life, rt);
+    check_end(&life, rt, 32);
+    come_back(&mut life, rt);
+    check_end(&life, rt, 40);
+    Ok(life)
 }
 
 #[test]
 fn refused_once(rt: HostRuntime) -> Result<(), Fail> {
-    Life::open(rt.alloc())?.live(&rt)?;
+    let _life = live(&rt, rt.alloc())?;
     Ok(())
 }
 
 #[test]
 fn nothing_refused(rt: HostRuntime) -> Result<(), Fail> {
-    let mut life = Life::open(rt.alloc())?;
-    life.live(&rt)?;
-    assert_eq!(rt; life.refused, 0);
+    live(&rt, rt.alloc())?.check_unrefused(&rt);
     Ok(())
 }

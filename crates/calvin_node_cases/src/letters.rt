@@ -4,6 +4,7 @@ use crate::shown::{Letter, batch_of, request};
 use calvin_app::KvRequest;
 use calvin_lock::Locks;
 use calvin_packets::{Address, Content, Packet};
+use calvin_store::Rows;
 use calvin_synod::{Message, Vote};
 use calvin_types::{Ballot, Batch, Fault, NodeId, Slot};
 use std::alloc::Global;
@@ -31,9 +32,9 @@ pub(crate) fn batch_x(alloc: Global) -> Result<Batch<KvRequest>, Fault> {
 }
 
 /// The packet of this number is this message.
-pub(crate) fn check_letter<L: Locks + Drop>(
+pub(crate) fn check_letter<L: Locks + Drop, S: Rows<u64> + Drop>(
     rt: &impl Abort,
-    nodes: &Nodes<L>,
+    nodes: &Nodes<L, S>,
     number: usize,
     from: u8,
     to: u8,

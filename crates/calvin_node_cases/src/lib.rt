@@ -4,6 +4,8 @@
 #[cfg(test)]
 mod agreement;
 #[cfg(test)]
+mod alike;
+#[cfg(test)]
 mod enduring;
 #[cfg(test)]
 mod letters;
@@ -12,6 +14,10 @@ mod nodes;
 #[cfg(test)]
 mod replicas;
 #[cfg(test)]
+mod scarce;
+#[cfg(test)]
 mod shown;
 #[cfg(test)]
 mod single;
+#[cfg(test)]
+mod voting_life;

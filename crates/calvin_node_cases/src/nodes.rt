@@ -1,9 +1,10 @@
 //! Nodes side by side, and the list of all that they sent.
-use crate::shown::{Said, Sent, is_same, request};
+use crate::alike::{have_sent_same, tell_same};
+use crate::shown::{Sent, copied, is_same, key, request};
 use calvin_app::{Kv, KvRequest};
 use calvin_lock::Locks;
-use calvin_node::{Act, Node};
-use calvin_packets::{Address, Outbox, Packet};
+use calvin_node::{Act, Durable, Node};
+use calvin_packets::Outbox;
 use calvin_store::{PlainRows, Rows};
 use calvin_types::{Config, Fault, NodeId, Place, Slot};
 use std::alloc::Global;
@@ -13,43 +14,52 @@ use std::process::Abort;
 const MOST_PACKETS: usize = 1000;
 
 /// A node that runs numbers by key.
-pub(crate) type Numbers<L> = Node<Kv, L, PlainRows<u64>>;
+pub(crate) type Numbers<L, S = PlainRows<u64>> = Node<Kv, L, S>;
 
 /// An event of a node, which is named by its number among the nodes, or of the packet of a number.
 #[derive(Clone, Copy)]
 pub(crate) enum Step {
     /// A request of client 7, with this number.
     Submit(usize, u32, KvRequest),
+    /// The same, and the request is held back.
+    SubmitCold(usize, u32, KvRequest),
     Close(usize),
     Propose(usize, u64),
     Deliver(usize),
     Merge(usize),
     Lock(usize),
     Begin(usize, Place),
+    /// The request is run beside the node, which then takes what came of it.
     Finish(usize, Place),
+    /// The request is run by the node.
+    Run(usize, Place),
     Snapshot(usize, u64),
+    Mark(usize, u64),
+    /// The row of the key of this number goes to the cold table.
+    Cool(usize, u64),
     AskReads(usize, Place, u8),
     AskBatch(usize, Slot, NodeId),
     Restart(usize),
-    /// The last node is opened anew from its durable record.
+    /// The last node is opened anew from its durable record. Where that is refused, it is opened from the record that was
+    /// handed back.
     Reopen,
 }
 
 /// All nodes, numbered from 0 replica by replica, and all packets that they sent, numbered from 0.
 #[derive(Drop)]
-pub(crate) struct Nodes<L: Locks + Drop> {
+pub(crate) struct Nodes<L: Locks + Drop, S: Rows<u64> + Drop = PlainRows<u64>> {
     alloc: Global,
     config: Config,
-    nodes: Vec<Numbers<L>>,
+    nodes: Vec<Numbers<L, S>>,
     sent: Outbox<Kv>,
 }
 
 /// Adds the nodes of a replica.
-fn add_replica<L: Locks + Drop>(
+fn add_replica<L: Locks + Drop, S: Rows<u64> + Drop>(
     alloc: Global,
     config: &Config,
     replica: u8,
-    nodes: &mut Vec<Numbers<L>>,
+    nodes: &mut Vec<Numbers<L, S>>,
 ) -> Result<(), Fault> {
     for partition in 0..config.partitions {
         let id = NodeId { replica, partition };
@@ -58,12 +68,16 @@ fn add_replica<L: Locks + Drop>(
     Ok(())
 }
 
-impl<L: Locks + Drop> Nodes<L> {
-    /// No event has happened yet, and nothing is held back.
-    pub(crate) fn new(alloc: Global, partitions: u8, replicas: u8) -> Result<Nodes<L>, Fault> {
-        let config = Config::new(partitions, replicas)?;
+impl<L: Locks + Drop, S: Rows<u64> + Drop> Nodes<L, S> {
+    /// No event has happened yet, and no request will be held back.
+    pub(crate) fn new(alloc: Global, partitions: u8, replicas: u8) -> Result<Nodes<L, S>, Fault> {
+        Nodes::of(alloc, Config::new(partitions, replicas)?)
+    }
+
+    /// No event has happened yet.
+    pub(crate) fn of(alloc: Global, config: Config) -> Result<Nodes<L, S>, Fault> {
         let mut nodes = Vec::new(alloc);
-        for replica in 0..replicas {
+        for replica in 0..config.replicas {
             add_replica(alloc, &config, replica, &mut nodes)?;
         }
         let sent = Outbox::new(alloc);
@@ -76,7 +90,7 @@ impl<L: Locks + Drop> Nodes<L> {
     }
 
     /// The node of a number, to be asked.
-    pub(crate) fn node(&self, number: usize) -> Result<&Numbers<L>, Fault> {
+    pub(crate) fn node(&self, number: usize) -> Result<&Numbers<L, S>, Fault> {
         self.nodes.get(number).ok_or(Fault::NoNode)
     }
 
@@ -90,11 +104,7 @@ impl<L: Locks + Drop> Nodes<L> {
         let Some(packet) = self.sent.packets().get(number) else {
             return Err(Fault::NoPacket);
         };
-        let packet = Packet {
-            from: packet.from,
-            to: packet.to,
-            content: packet.content.copy()?,
-        };
+        let packet = copied(packet)?;
         for node in self.nodes.iter_mut() {
             if packet.to.is_for(node.id()) {
                 return node.handle(&packet, &mut self.sent);
@@ -111,6 +121,7 @@ impl<L: Locks + Drop> Nodes<L> {
         let sent = &mut self.sent;
         match step {
             Step::Submit(_, number, args) => node.submit(request(*number, *args)),
+            Step::SubmitCold(_, number, args) => node.submit_cold(request(*number, *args), sent),
             Step::Close(_) => node.close(),
             Step::Propose(_, epoch) => node.propose(*epoch, sent),
             Step::Deliver(_) | Step::Reopen => Err(Fault::NoNode),
@@ -121,26 +132,59 @@ impl<L: Locks + Drop> Nodes<L> {
                 let computed = node.job(*place)?.compute(&Kv);
                 node.finish(&computed, sent)
             }
+            Step::Run(_, place) => node.run(*place, &Kv, sent),
             Step::Snapshot(_, epoch) => node.snapshot(*epoch),
+            Step::Mark(_, epoch) => node.mark(*epoch),
+            Step::Cool(_, id) => node.cool(&key(*id)),
             Step::AskReads(_, place, replica) => node.ask_reads(*place, *replica, sent),
             Step::AskBatch(_, slot, of) => node.ask_batch(*slot, *of, sent),
             Step::Restart(_) => node.restart(),
         }
     }
 
-    /// The last node is opened anew from its durable record.
+    /// One more node, opened from a durable record; where that is refused, the record is handed back.
+    fn open(&mut self, id: NodeId, record: Durable<Kv>) -> Result<(), (Fault, Durable<Kv>)> {
+        let node = Node::from_durable(self.alloc, &self.config, id, record)?;
+        let _pushed = self.nodes.push(node);
+        Ok(())
+    }
+
+    /// The last node is opened anew from its durable record. Where that is refused, it is opened from the record that was
+    /// handed back.
     fn reopen(&mut self) -> Result<(), Fault> {
         let Some(node) = self.nodes.pop() else {
             return Err(Fault::NoNode);
         };
         let id = node.id();
-        match Node::from_durable(self.alloc, &self.config, id, node.into_durable()) {
-            Ok(node) => {
-                self.nodes.push(node)?;
-                Ok(())
+        match self.open(id, node.into_durable()) {
+            Ok(()) => Ok(()),
+            Err((fault, record)) => {
+                let _opened = self.open(id, record);
+                Err(fault)
             }
-            Err((fault, _record)) => Err(fault),
         }
+    }
+
+    /// The outbox has all packets, as before, and memory for so many more, if for four at least. A refusal leaves it.
+    pub(crate) fn leave_room(&mut self, room: usize) -> Result<(), Fault> {
+        let mut sent = Outbox::new(self.alloc);
+        sent.reserve(self.packets().len().saturating_add(room))?;
+        for packet in self.packets() {
+            sent.push(copied(packet)?)?;
+        }
+        self.sent = sent;
+        Ok(())
+    }
+
+    /// Whether the same packets were sent as by others, and each node tells the same as the other of its number.
+    pub(crate) fn is_alike(&self, others: &Nodes<L, S>) -> bool {
+        self.nodes.len() == others.nodes.len()
+            && have_sent_same(self.packets(), others.packets())
+            && self
+                .nodes
+                .iter()
+                .zip(others.nodes.iter())
+                .all(|(one, other)| tell_same(one, other))
     }
 
     /// A node's own event happens, by its name.
@@ -167,13 +211,17 @@ impl<L: Locks + Drop> Nodes<L> {
             Step::Deliver(number) => self.deliver(*number),
             Step::Reopen => self.reopen(),
             Step::Submit(node, ..)
+            | Step::SubmitCold(node, ..)
             | Step::Close(node)
             | Step::Propose(node, _)
             | Step::Merge(node)
             | Step::Lock(node)
             | Step::Begin(node, _)
             | Step::Finish(node, _)
+            | Step::Run(node, _)
             | Step::Snapshot(node, _)
+            | Step::Mark(node, _)
+            | Step::Cool(node, _)
             | Step::AskReads(node, ..)
             | Step::AskBatch(node, ..)
             | Step::Restart(node) => self.happen(*node, step),

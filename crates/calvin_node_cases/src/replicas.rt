@@ -164,32 +164,32 @@ fn check_replies<L: Locks + Drop>(rt: &impl Abort, nodes: &Nodes<L>, first: usiz
     }
 }
 
-#[test]
-fn restart_and_catch_up(rt: HostRuntime) -> Result<(), Fail> {
-    catch_up::<ListLocks>(&rt, rt.alloc())?;
-    catch_up::<QueueLocks>(&rt, rt.alloc())?;
-    Ok(())
-}
-
 /// Partition 0 has begun and asks for the rows of partition 1, which has not begun: its question is refused, and nothing is
 /// sent.
-#[test]
-fn asked_for_reads_before_it_began(rt: HostRuntime) -> Result<(), Fail> {
-    let mut nodes: Nodes<ListLocks> = Nodes::new(rt.alloc(), 2, 2)?;
-    agree(&rt, &mut nodes, 0, 1, KvRequest::Move(1, 2, 7));
+fn ask_before_it_begins(rt: &impl Abort, alloc: Global) -> Result<(), Fault> {
+    let mut nodes: Nodes<ListLocks> = Nodes::new(alloc, 2, 2)?;
+    agree(rt, &mut nodes, 0, 1, KvRequest::Move(1, 2, 7));
     for node in 0..2 {
-        nodes.run(&rt, &[Step::Merge(node), Step::Lock(node)]);
+        nodes.run(rt, &[Step::Merge(node), Step::Lock(node)]);
     }
     nodes.run(
-        &rt,
+        rt,
         &[
             Step::Begin(0, place(0, 0)),
             Step::AskReads(0, place(0, 0), 0),
         ],
     );
     let asked = nodes.packets().len();
-    nodes.refuse(&rt, Step::Deliver(asked.saturating_sub(1)), 47);
+    nodes.refuse(rt, Step::Deliver(asked.saturating_sub(1)), 47);
     assert_eq!(rt; nodes.packets().len(), asked);
+    Ok(())
+}
+
+#[test]
+fn restart_and_catch_up(rt: HostRuntime) -> Result<(), Fail> {
+    catch_up::<ListLocks>(&rt, rt.alloc())?;
+    catch_up::<QueueLocks>(&rt, rt.alloc())?;
+    ask_before_it_begins(&rt, rt.alloc())?;
     Ok(())
 }
 

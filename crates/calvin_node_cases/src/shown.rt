@@ -46,6 +46,15 @@ pub(crate) fn batch_of(alloc: Global, txn: Txn<KvRequest>) -> Result<Batch<KvReq
     Batch::new(alloc, txns)
 }
 
+/// A copy of a packet, whose batch shares the memory.
+pub(crate) fn copied(packet: &Sent) -> Result<Sent, Fault> {
+    Ok(Packet {
+        from: packet.from,
+        to: packet.to,
+        content: packet.content.copy()?,
+    })
+}
+
 /// Whether two packets say the same.
 fn says_same(one: &Said, other: &Said) -> bool {
     match (one, other) {

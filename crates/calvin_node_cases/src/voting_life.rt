@@ -1,0 +1,253 @@
+//! A life of the three replicas of one partition, in which what is refused for want of memory is tried again (`enduring`). A
+//! node's number is its replica, and two of them are a majority.
+use crate::enduring::Life;
+use crate::letters::{SLOT, X, at, check_letter};
+use crate::nodes::Step;
+use crate::shown::{Letter, Sent};
+use calvin_app::KvRequest;
+use calvin_packets::Content;
+use calvin_synod::Message;
+use calvin_types::{Ballot, Config, Fault, Place, Slot};
+use std::alloc::Global;
+use std::process::Abort;
+use std::test::Fail;
+
+/// What nodes 1 and 2 have submitted.
+const Y: KvRequest = KvRequest::Put(1, 6);
+
+const Z: KvRequest = KvRequest::Put(2, 7);
+
+/// The slots of the epochs 1 and 2.
+const SECOND: Slot = Slot { epoch: 1, group: 0 };
+
+const THIRD: Slot = Slot { epoch: 2, group: 0 };
+
+/// A node has sent the prepares of a ballot of its own, from this number on.
+fn check_prepares(life: &Life, rt: &impl Abort, first: usize, slot: Slot, ballot: Ballot) {
+    for to in 0..3 {
+        let number = first.saturating_add(usize::from(to));
+        let letter = Message::Prepare { slot, ballot };
+        check_letter(rt, life.nodes(), number, ballot.replica, to, letter);
+    }
+}
+
+/// Node 1 or 2 has refused a ballot for epoch 1, for a promise, to the replica of the ballot.
+fn check_refused(
+    life: &Life,
+    rt: &impl Abort,
+    number: usize,
+    from: u8,
+    ballot: Ballot,
+    promise: Ballot,
+) {
+    let letter: Letter = Message::Refused {
+        slot: SECOND,
+        ballot,
+        promise,
+    };
+    check_letter(rt, life.nodes(), number, from, ballot.replica, letter);
+}
+
+/// The ballot of the vote that a packet reports, if it is a promise with one.
+fn voted(packet: &Sent) -> Option<Ballot> {
+    match &packet.content {
+        Content::Synod(
+            Message::Promise {
+                vote: Some(vote),
+                ..
+            },
+        ) => Some(vote.ballot),
+        _ => None,
+    }
+}
+
+/// Two nodes hold the same batch for a slot.
+fn check_held(
+    life: &Life,
+    rt: &impl Abort,
+    slot: Slot,
+    one: usize,
+    other: usize,
+) -> Result<(), Fault> {
+    let held = life.nodes().node(one)?.held(slot);
+    assert!(rt; held.is_some());
+    assert!(rt; held == life.nodes().node(other)?.held(slot));
+    Ok(())
+}
+
+/// Node 0 proposes X for epoch 0: prepares 0 to 2, promises 3 to 5, accepts 6 to 8, votes of replica 0: 9 to 11, of replica 1:
+/// 12 to 14, of replica 2: 15 to 17. Nodes 0 and 2 come to hold X, and node 1 counts one vote.
+fn vote_for_x(life: &mut Life, rt: &impl Abort) {
+    life.endure_all(
+        rt,
+        &[Step::Submit(0, 1, X), Step::Close(0), Step::Propose(0, 0)],
+    );
+    life.deliver(rt, 0, 5);
+    life.refuse_all(rt, &[(Step::Deliver(4), 21), (Step::Deliver(5), 21)]);
+    life.deliver(rt, 6, 10);
+    life.refuse_all(rt, &[(Step::Deliver(9), 22)]);
+    life.endure_all(
+        rt,
+        &[
+            Step::Deliver(12),
+            Step::Deliver(11),
+            Step::Deliver(14),
+            Step::Deliver(10),
+        ],
+    );
+    life.refuse_all(rt, &[(Step::Deliver(15), 22), (Step::Deliver(10), 22)]);
+}
+
+/// Node 1 begins a ballot for Y: prepares 18 to 20, promises 21 and 22 with the votes for X, accepts 23 to 25, votes of replica
+/// 0: 26 to 28, of replica 2: 29 to 31. It comes to hold X, and Y is queued again.
+fn vote_for_x_again(life: &mut Life, rt: &impl Abort) -> Result<(), Fault> {
+    life.endure_all(
+        rt,
+        &[
+            Step::Submit(1, 2, Y),
+            Step::Close(1),
+            Step::Propose(1, 0),
+            Step::Deliver(18),
+            Step::Deliver(20),
+        ],
+    );
+    life.deliver(rt, 21, 24);
+    life.endure_all(
+        rt,
+        &[Step::Deliver(25), Step::Deliver(27), Step::Deliver(30)],
+    );
+    check_held(life, rt, SLOT, 0, 1)?;
+    check_held(life, rt, SLOT, 0, 2)?;
+    assert_eq!(rt; life.nodes().node(1)?.queued(), 1);
+    Ok(())
+}
+
+/// Two ballots for epoch 1. That of node 0, with round 2: prepares 32 to 34, promises 35 and 36. Node 2 knows of no round and
+/// begins with 1: prepares 37 to 39, of which node 1 refuses one with packet 40. So it begins with round 3 and proposes Z:
+/// prepares 41 to 43, promises 44 and 45, accepts 46 to 48.
+fn contend(life: &mut Life, rt: &impl Abort) {
+    life.endure_all(rt, &[Step::Close(0), Step::Propose(0, 1)]);
+    life.deliver(rt, 32, 34);
+    life.endure_all(
+        rt,
+        &[
+            Step::Submit(2, 3, Z),
+            Step::Close(2),
+            Step::Propose(2, 1),
+            Step::Deliver(38),
+            Step::Deliver(40),
+        ],
+    );
+    check_prepares(life, rt, 37, SECOND, at(1, 2));
+    check_refused(life, rt, 40, 1, at(1, 2), at(2, 0));
+    life.refuse_all(rt, &[(Step::Deliver(40), 21)]);
+    life.endure_all(rt, &[Step::Propose(2, 1)]);
+    check_prepares(life, rt, 41, SECOND, at(3, 2));
+    life.deliver(rt, 42, 46);
+}
+
+/// Node 0's accepts come too late: of 49 to 51 node 1 refuses one with packet 52. Node 0 begins with round 4: prepares 53 to
+/// 55. Node 2's accepts come before: votes of replica 1: 56 to 58, of replica 2: 59 to 61, and node 2 comes to hold Z. Node 0
+/// is told so by a vote: promises 62 and 63, accepts 64 to 66, votes of replica 0: 67 to 69, of replica 1: 70 to 72.
+fn give_way(life: &mut Life, rt: &impl Abort) -> Result<(), Fault> {
+    life.deliver(rt, 35, 37);
+    life.endure_all(rt, &[Step::Deliver(50), Step::Deliver(52)]);
+    check_refused(life, rt, 52, 1, at(2, 0), at(3, 2));
+    life.endure_all(
+        rt,
+        &[
+            Step::Propose(0, 1),
+            Step::Deliver(47),
+            Step::Deliver(48),
+            Step::Deliver(58),
+            Step::Deliver(61),
+        ],
+    );
+    check_prepares(life, rt, 53, SECOND, at(4, 0));
+    life.deliver(rt, 53, 55);
+    life.deliver(rt, 62, 66);
+    life.endure_all(rt, &[Step::Deliver(67), Step::Deliver(70)]);
+    check_held(life, rt, SECOND, 0, 2)?;
+    assert_eq!(rt; life.nodes().node(2)?.queued(), 0);
+    Ok(())
+}
+
+/// Node 2 runs both epochs, with the replies 73 and 74, and takes a snapshot.
+fn run_both(life: &mut Life, rt: &impl Abort) {
+    life.endure_all(
+        rt,
+        &[
+            Step::Merge(2),
+            Step::Merge(2),
+            Step::Lock(2),
+            Step::Lock(2),
+            Step::Begin(2, Place { epoch: 0, n: 0 }),
+            Step::Run(2, Place { epoch: 0, n: 0 }),
+            Step::Begin(2, Place { epoch: 1, n: 0 }),
+            Step::Finish(2, Place { epoch: 1, n: 0 }),
+            Step::Snapshot(2, 1),
+        ],
+    );
+}
+
+/// Node 2 comes back with its rows, and is opened from its record. It still has its promise for epoch 1, with which it refuses
+/// its own first ballot in packet 75; its vote, which it reports in packet 76; and the greatest round that it used, after
+/// which it begins a ballot for epoch 2: prepares 77 to 79.
+fn come_back(life: &mut Life, rt: &impl Abort) {
+    life.endure_all(
+        rt,
+        &[
+            Step::Restart(2),
+            Step::Reopen,
+            Step::Deliver(39),
+            Step::Deliver(55),
+            Step::Submit(2, 4, Y),
+            Step::Close(2),
+            Step::Propose(2, 2),
+        ],
+    );
+    check_refused(life, rt, 75, 2, at(1, 2), at(3, 2));
+    let told = life.nodes().packets().get(76).and_then(voted);
+    assert_eq!(rt; told, Some(at(3, 2)));
+    check_prepares(life, rt, 77, THIRD, at(4, 2));
+    life.refuse_all(rt, &[(Step::Deliver(75), 21), (Step::Deliver(76), 21)]);
+    assert_eq!(rt; life.nodes().packets().len(), 80);
+}
+
+/// Node 2 stands at the end of epoch 1 with what was put.
+fn check_end(life: &Life, rt: &impl Abort) {
+    life.nodes().check_stands(rt, 2, Some(1), 2);
+    life.check_row(rt, 2, 1, 5);
+    life.check_row(rt, 2, 2, 7);
+}
+
+/// The life, with memory for so many packets at each event.
+fn live(rt: &impl Abort, alloc: Global, room: usize) -> Result<Life, Fault> {
+    let mut life = Life::open(alloc, Config::new(1, 3)?, room)?;
+    vote_for_x(&mut life, rt);
+    vote_for_x_again(&mut life, rt)?;
+    contend(&mut life, rt);
+    give_way(&mut life, rt)?;
+    run_both(&mut life, rt);
+    check_end(&life, rt);
+    come_back(&mut life, rt);
+    check_end(&life, rt);
+    Ok(life)
+}
+
+/// There is memory for no packet, and for the first of three.
+#[test]
+fn refused_once(rt: HostRuntime) -> Result<(), Fail> {
+    for room in 0..2 {
+        let _life = live(&rt, rt.alloc(), room)?;
+    }
+    Ok(())
+}
+
+#[test]
+fn nothing_refused(rt: HostRuntime) -> Result<(), Fail> {
+    for room in 0..2 {
+        live(&rt, rt.alloc(), room)?.check_unrefused(&rt);
+    }
+    Ok(())
+}
