@@ -11,7 +11,7 @@ use Rattle.calvin_packets.specs.declared.packet.Content.{Content}
 use Rattle.calvin_packets.specs.declared.packet.Content.TheVariants.{Synod, Reads, Warm}
 use Rattle.calvin_acts.specs.NodeStates.{NodeState, site_of}
 use Rattle.calvin_acts.specs.declared.act.Act.{Act}
-use Rattle.calvin_acts.specs.declared.act.Act.TheVariants.{Merge, Lock, Begin, Restart, Cool, Mark}
+use Rattle.calvin_acts.specs.declared.act.Act.TheVariants.{Merge, Lock, Begin, Restart, Mark}
 use Rattle.calvin_acts.specs.Acting.{next_merged}
 
 module _ {Args : Type 0} where
@@ -24,19 +24,18 @@ module _ {Args : Type 0} where
   is_first_here here [] = false
   is_first_here here (e ∷ rest) = has_local_key here e.1
 
--- there is a snapshot: it has some epochs
-abbrev pub is_snapshot : ℕ → Bool
-is_snapshot zero = false
-is_snapshot (suc epochs) = true
+-- there is a last snapshot, where it counts so many epochs
+abbrev pub has_snapshot : ℕ → Bool
+has_snapshot zero = false
+has_snapshot (suc epochs) = true
 
 module _ {Args Row : Type 0} where
-  -- an event of the node itself. A request that reads no key here reads no row, and none is sent; a restart without a snapshot loads none; and without a cold table no row goes there
+  -- an event of the node itself. A request that reads no key here reads no row, and none is sent; and a restart without a snapshot loads none
   abbrev pub act_grows : Config → Act Args → NodeState Args Row → Bool
   act_grows c Merge x = is_some_request (next_merged c x)
   act_grows c Lock x = is_first_here (site_of c.partitions x) x.pending
   act_grows c (Begin q) x = is_read_here (site_of c.partitions x) (turn_at x.scheduler q)
-  act_grows c Restart x = is_snapshot x.kept_epochs
-  act_grows c (Cool k) x = c.cold
+  act_grows c Restart x = has_snapshot x.kept_epochs
   act_grows c (Mark e) x = false
   act_grows c _ x = true
 

@@ -6,8 +6,8 @@ use calvin_types::{Key, NodeId, Place, Slot, Txn};
 pub enum Act<Args> {
     /// A client's request joins the sequencer's queue.
     Submit(Txn<Args>),
-    /// The same for a request that may touch cold rows: it is held back for some closings, while they are warmed (Thomson
-    /// et al. 2012, section 4: rows on disk).
+    /// The same for a request that may touch cold rows: it is held back for as many closings as the delay, while they are
+    /// warmed (Thomson et al. 2012, section 4: rows on disk).
     SubmitCold(Txn<Args>),
     /// The row of a key goes to the cold table.
     Cool(Key),

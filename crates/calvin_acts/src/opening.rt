@@ -4,7 +4,7 @@ ghost use Rattle.std.specs.Option.{unwrap_or};
 ghost use Rattle.calvin_types.specs.Participants.{site};
 ghost use Rattle.calvin_order.specs.Merged.{end_of};
 ghost use Rattle.calvin_sched.specs.Scheduling.{opened};
-ghost use Rattle.calvin_acts.specs.Growing.{is_snapshot};
+ghost use Rattle.calvin_acts.specs.Growing.{has_snapshot};
 ghost use Rattle.calvin_acts.specs.Running.{kept_epochs, kept_rows};
 
 use calvin_app::App;
@@ -33,7 +33,7 @@ pub fn scheduler_from<A: App, L: Locks + Drop, S: Rows<A::Row> + Drop>(
     kept: &Option<(u64, Snapshot<A::Row>)>,
 ) -> Result<Scheduler<A, L, S>, Fault>
     ensures ok { IfOk result (λ s. s ≡ record { here = site config.now.partitions partition; scheduling = opened (end_of (kept_epochs kept.now)) (kept_rows kept.now); room = s.room; merged = kept_epochs kept.now; due = []; due_room = 0 }) }
-    ensures only { IfErr result (λ fault. (fault ≡ Fault.OutOfMemory) × (is_snapshot (kept_epochs kept.now) ≡ true)) }
+    ensures only { IfErr result (λ fault. (fault ≡ Fault.OutOfMemory) × (has_snapshot (kept_epochs kept.now) ≡ true)) }
 {
     match kept {
         Some((epoch, rows)) => Scheduler::from_snapshot(alloc, config, partition, rows, *epoch),

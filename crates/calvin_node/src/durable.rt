@@ -3,7 +3,7 @@ ghost use Rattle.std.specs.Prelude.{◌≡◌, [], Ok, true, IfOk, IfErr};
 ghost use Rattle.calvin_acts.specs.Acting as acting;
 ghost use Rattle.calvin_acts.specs.Durables as durables;
 ghost use Rattle.calvin_acts.specs.Durables.{durable_of};
-ghost use Rattle.calvin_acts.specs.Growing.{act_grows, is_snapshot};
+ghost use Rattle.calvin_acts.specs.Growing.{act_grows, has_snapshot};
 ghost use Rattle.calvin_acts.specs.Running.{NodeDid, config_of};
 ghost use Rattle.calvin_acts.specs.declared.act.Act.TheVariants as act;
 
@@ -79,7 +79,7 @@ impl<A: App, L: Locks + Drop, S: Rows<A::Row> + Drop> Node<A, L, S> {
         ensures config { IfOk result (λ n. n.config ≡ config_of config.now.partitions config.now.replicas S.points S.cold config.now.delay) }
         ensures state { IfOk result (λ n. durables.from_durable n.config id durable ≡ Ok n.state) }
         ensures err { IfErr result (λ refused. refused.1 ≡ durable) }
-        ensures only { IfErr result (λ refused. (refused.0 ≡ Fault.OutOfMemory) × (is_snapshot durable.kept_epochs ≡ true)) }
+        ensures only { IfErr result (λ refused. (refused.0 ≡ Fault.OutOfMemory) × (has_snapshot durable.kept_epochs ≡ true)) }
     {
         let scheduler = match scheduler_from(alloc, config, id.partition, &durable.kept) {
             Ok(scheduler) => scheduler,

@@ -20,8 +20,11 @@ use calvin_types::{Batch, Fault, NodeId, Place, Sets, Slot};
 
 impl<A: App, L: Locks + Drop, S: Rows<A::Row> + Drop> Node<A, L, S> {
     /// A packet reaches the node, and what it says is done. Refused with `NotMine` where it is for another node or a client, is
-    /// an answer, or is a message of another group's synods; with what the case of its content refuses; else with
-    /// `OutOfMemory` where a growth was refused or a batch can have no more owners.
+    /// an answer, or is a message of another group's synods; with `NotCurrent` for a promise or a refusal of a ballot that
+    /// is no news, with `Known` for a vote or a batch that is known, with `NoBatch` where the batch that is asked for isn't
+    /// held, with `NotAwaited` for rows that aren't awaited, with `NotServed` where rows are asked for that were not read
+    /// here; else with `OutOfMemory` where a growth was refused or a batch can have no more owners, but for no news of a
+    /// greater promise, no rows that come, and no warming without a cold table.
     pub fn handle(
         &mut self,
         packet: &Packet<A::Args, A::Row, A::Reply>,

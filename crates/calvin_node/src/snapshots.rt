@@ -1,9 +1,7 @@
 //! Snapshots of a node's rows, points of consistency, and cold rows.
 ghost use Rattle.std.specs.Prelude.{◌+◌, ◌≤◌, [], false, true, MatchBool};
 ghost use Rattle.calvin_acts.specs.Acting as acting;
-ghost use Rattle.calvin_acts.specs.Growing.{act_grows};
 ghost use Rattle.calvin_acts.specs.Running.{NodeDid};
-ghost use Rattle.calvin_acts.specs.declared.act.Act.TheVariants as act;
 
 use crate::node::Node;
 use calvin_app::App;
@@ -24,9 +22,9 @@ impl<A: App, L: Locks + Drop, S: Rows<A::Row> + Drop> Node<A, L, S> {
 
     /// The row of a key goes to the cold table (section 4). Refused with `PointOpen` where a point is open, with `NoRow` where
     /// the key has no row that isn't cold, and with `NoColdTable` where the keeper of rows has no such table; else with
-    /// `OutOfMemory` where it has one and a growth was refused.
+    /// `OutOfMemory` where a growth was refused.
     pub fn cool(&mut self, key: &Key) -> Result<(), Fault>
-        ensures did { NodeDid {Reply = A.Reply} (act_grows self.old.config (act.Cool key.now) self.old.state) result (acting.cool_row self.old.config key.now self.old.state) self.old self.new [] [] }
+        ensures did { NodeDid {Reply = A.Reply} true result (acting.cool_row self.old.config key.now self.old.state) self.old self.new [] [] }
     {
         self.scheduler.due_is_undone();
         self.scheduler.cool(key)
@@ -43,9 +41,9 @@ impl<A: App, L: Locks + Drop, S: Rows<A::Row> + Drop> Node<A, L, S> {
     }
 
     /// The rows at the end of an epoch become the durable record's snapshot (section 5: a checkpoint): those of the point that
-    /// is open there, once the epochs up to it are merged and done here; else those of now, where the node stands there.
-    /// Refused with `NotAtEnd`, with `Older` where the record has a snapshot of this epoch or a later one, else with
-    /// `OutOfMemory` where a growth was refused.
+    /// is open there, once the epochs up to it are merged and done here; else those of now, where the node stands there. A
+    /// point at that end or before it is closed. Refused with `NotAtEnd` where there are neither, with `Older` where the
+    /// record has a snapshot of this epoch or a later one, else with `OutOfMemory` where a growth was refused.
     pub fn snapshot(&mut self, epoch: u64) -> Result<(), Fault>
         ensures did { NodeDid {Reply = A.Reply} true result (acting.snapshot epoch self.old.state) self.old self.new [] [] }
     {

@@ -20,8 +20,9 @@ impl<A: App, L: Locks + Drop, S: Rows<A::Row> + Drop> Node<A, L, S> {
         self.sequencer.submit(txn)
     }
 
-    /// A client's request that may touch cold rows is held back for some closings, while the partitions of the replica that
-    /// store its keys are told to have their rows in memory (section 4: rows on disk). Refused as `submit` is.
+    /// A client's request that may touch cold rows is held back for as many closings as the configuration's delay, and joins
+    /// the queue at once where that is 0, while the partitions of the replica that store its keys are told to have their
+    /// rows in memory (section 4: rows on disk). Refused as `submit` is.
     pub fn submit_cold(&mut self, txn: Txn<A::Args>, outbox: &mut Outbox<A>) -> Result<(), Fault>
         ensures did { NodeDid true result (acting.submit_cold self.old.config txn self.old.state) self.old self.new outbox.old.packets outbox.new.packets }
     {
@@ -34,8 +35,8 @@ impl<A: App, L: Locks + Drop, S: Rows<A::Row> + Drop> Node<A, L, S> {
     }
 
     /// The sequencer closes the batch of its next epoch (Thomson et al. 2012, section 3.1: an epoch ends): the requests at the
-    /// queue's front, 256 or all if there are fewer. Requests that were held back for so many closings join the queue's end
-    /// then. Refused with `EpochsSpent` where that epoch is 2^48 or more, else with `OutOfMemory` where a growth was refused.
+    /// queue's front, 256 or all if there are fewer. Requests that were held back for as many closings as the delay join the
+    /// queue's end then. Refused with `EpochsSpent` where that epoch is 2^48 or more, else with `OutOfMemory` where a growth was refused.
     pub fn close(&mut self) -> Result<(), Fault>
         ensures did { NodeDid {Reply = A.Reply} true result (acting.close self.old.config self.old.state) self.old self.new [] [] }
     {

@@ -2,7 +2,8 @@
 //! replica. Here and in the life of three replicas (`voting_life`) every message and every event has effect, those at a
 //! majority and those below it, but two: plain rows have no points and no cold table, so a mark (56) and a row that is to cool
 //! (55, 57) are refused. With ample memory nothing else is. `rt try --test --fail-alloc N` refuses the Nth allocation of a
-//! test: for each N from 1 until `nothing_refused` passes, `refused_once` has to pass.
+//! test: for each N, from 1 until `nothing_refused` has passed for many in turn, `refused_once` has to pass
+//! (`tools/check_refusals`).
 use crate::nodes::{Nodes, Step, number_of};
 use crate::scarce::ScarceRows;
 use crate::shown::key;

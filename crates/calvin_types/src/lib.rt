@@ -23,8 +23,8 @@ pub use few::Few;
 pub use key::Key;
 pub use key_set::{KeySet, Sets};
 pub use limits::{
-    MOST_ATTEMPTS, MOST_EPOCHS, MOST_KEYS, MOST_PARTITIONS, MOST_REPLICAS, MOST_REQUESTS,
-    MOST_ROUNDS, MOST_UNDECIDED,
+    MOST_ATTEMPTS, MOST_DELAY, MOST_EPOCHS, MOST_KEYS, MOST_PARTITIONS, MOST_REPLICAS,
+    MOST_REQUESTS, MOST_ROUNDS, MOST_UNDECIDED,
 };
 pub use place::{Ballot, NodeId, Place, RequestId, Slot, orders_are};
 pub use room_map::{RoomKey, RoomMap};

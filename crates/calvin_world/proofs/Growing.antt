@@ -40,7 +40,7 @@ module _ {Args Row Reply : Type 0} (m : Meaning Args Row Reply) (config : Config
   pub acts_silent : (act : Act Args) → act_grows config act x ≡ false → Acts m config act x next sent → sent ≡ []
   acts_silent (Submit t) h d = not_growing h
   acts_silent (SubmitCold t) h d = not_growing h
-  acts_silent (Cool k) h (e, f) = f
+  acts_silent (Cool k) h d = not_growing h
   acts_silent Close h d = not_growing h
   acts_silent Restart h (e, f) = f
   acts_silent (Propose n) h d = not_growing h

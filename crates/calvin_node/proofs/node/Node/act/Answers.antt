@@ -19,7 +19,7 @@ returns-in-Cool g c =
     let x = c.args.self.now in
     let reply = g.row.A-Reply.Denot in
     let sent = c.args.outbox.now.packets in
-    let did = quiet x.config.cold c.cool.result (acting.cool_row {Reply = reply} x.config c.in-Cool.key x.state) x c.cool.new.self sent c.cool.ensures.did in
+    let did = quiet true c.cool.result (acting.cool_row {Reply = reply} x.config c.in-Cool.key x.state) x c.cool.new.self sent c.cool.ensures.did in
     record { did = subst (λ k. NodeDid (act_grows x.config k x.state) c.cool.result (acting.deed_of g.A.App.meaning x.config k x.state) x c.cool.new.self sent sent) (sym c.in-Cool.is) did }
 
 pub returns-in-Close : goal.returns-in-Close

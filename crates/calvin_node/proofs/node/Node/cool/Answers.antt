@@ -1,4 +1,4 @@
-use Rattle.std.proofs.Common.{[], sym, ap, subst, ◌∙◌}
+use Rattle.std.proofs.Common.{[], true, refl, sym, ap, subst, ◌∙◌}
 use Rattle.calvin_sched.specs.Progress.{left}
 use Rattle.calvin_sched.specs.Standing as standing
 use Rattle.calvin_acts.specs.Acting as acting
@@ -13,8 +13,8 @@ returns g c =
     let config = config_of p.config.partitions p.config.replicas g.S.Rows.points g.S.Rows.cold p.sequencer.delay in
     let s = c.cool.new.self.scheduling in
     record {
-      did = subst (λ v. NodeDid {Reply = g.row.A-Reply.Denot} v.config.cold c.cool.result (acting.cool_row v.config c.args.key.now v.state) v (running config (record x { scheduler = s; due = left s c.cool.new.self.due })) [] []) c.self.view_is
-          (subst (λ d. NodeDid {Reply = g.row.A-Reply.Denot} g.S.Rows.cold c.cool.result (acting.cool_row config c.args.key.now x) (running config x) (running config (record x { scheduler = s; due = left s d })) [] [])
+      did = subst (λ v. NodeDid {Reply = g.row.A-Reply.Denot} true c.cool.result (acting.cool_row v.config c.args.key.now v.state) v (running config (record x { scheduler = s; due = left s c.cool.new.self.due })) [] []) c.self.view_is
+          (subst (λ d. NodeDid {Reply = g.row.A-Reply.Denot} true c.cool.result (acting.cool_row config c.args.key.now x) (running config x) (running config (record x { scheduler = s; due = left s d })) [] [])
           (c.due_is_undone.ensures ∙ sym (ap (λ n. n.due) c.cool.ensures.rest))
-          (scheduled g.row.A-Reply.Denot config x (left_again p.scheduler.scheduling p.scheduler.due) g.S.Rows.cold g.S.Rows.cold (λ h. h) c.cool.result (standing.cool g.S.Rows.cold c.args.key.now p.scheduler.scheduling) s c.cool.ensures.did));
+          (scheduled g.row.A-Reply.Denot config x (left_again p.scheduler.scheduling p.scheduler.due) g.S.Rows.cold true (λ _. refl) c.cool.result (standing.cool g.S.Rows.cold c.args.key.now p.scheduler.scheduling) s c.cool.ensures.did));
     }
