@@ -1,5 +1,6 @@
--- What a vote with which a majority has voted makes of a node.
-use Rattle.std.proofs.Common.{◌≡◌, ℕ, true, false, cond, List, Option, Some, None, Ok, Err, refl, sym, subst, ◌∙◌}
+-- What a batch that is decided, and a vote with which a majority has voted, make of a node.
+use Rattle.std.proofs.Common.{◌≡◌, ℕ, ◌-◌, true, false, cond, List, Option, Some, None, Ok, Err, refl, sym, ap, subst, ◌∙◌}
+use Rattle.std.specs.FinMap.{contains_key, insert}
 use Rattle.calvin_types.specs.declared.fault.Fault.{Fault}
 use Rattle.calvin_types.specs.declared.fault.Fault.TheVariants.{OutOfMemory, Known}
 use Rattle.calvin_types.specs.declared.place.Ballot.{Ballot}
@@ -9,12 +10,23 @@ use Rattle.calvin_synod.specs.Deeds.{MemberState}
 use Rattle.calvin_synod.specs.Roles.{knows, completes, learned}
 use Rattle.calvin_order.specs.Configs.{Config}
 use Rattle.calvin_order.specs.Merged.{Batch}
+use Rattle.calvin_order.specs.Merging.{Merging, with_batch}
 use Rattle.calvin_packets.specs.declared.packet.Packet.{Packet}
 use Rattle.calvin_packets.specs.Letters.{MemberSent}
 use Rattle.calvin_acts.specs.NodeStates.{NodeState, with_synod, holding}
 use Rattle.calvin_acts.specs.Handling.{by_synod}
 use Rattle.calvin_acts.specs.Running.{NodeDid, settled}
 use Rattle.calvin_acts.proofs.Settling.{running}
+
+-- a merge that made room, and then holds one more batch
+pub now_held : {Args : Type 0} (m ready held : Merging Args) (slot : Slot) (batch : Batch Args) → ready ≡ record m { room = ready.room } → held ≡ with_batch slot batch ready → contains_key m.held slot ≡ false
+    → (held.held ≡ insert m.held slot batch) × (held.next ≡ m.next) × (held.partitions ≡ m.partitions)
+now_held m ready held slot batch made is free =
+    let whole : held ≡ record m { held = insert m.held slot batch; room = ready.room - 1 } =
+        is
+        ∙ (λ i. with_batch slot batch (made i))
+        ∙ (λ i. cond (free i) (record m { room = ready.room }) (record m { held = insert m.held slot batch; room = ready.room - 1 })) in
+    (ap (λ k. k.held) whole, ap (λ k. k.next) whole, ap (λ k. k.partitions) whole)
 
 module _ {Args Row : Type 0} (Reply : Type 0) (c : Config) (x : NodeState Args Row) (me : ℕ) (from : ℕ) (slot : Slot) (ballot : Ballot) (batch : Batch Args)
     (new_vote : knows x.synod.learner from slot ballot ≡ false) (full : completes c.replicas x.synod.learner slot ballot ≡ true) (sent : List (Packet Args Row Reply)) where

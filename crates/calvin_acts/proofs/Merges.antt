@@ -1,23 +1,19 @@
 -- What merging an epoch makes of a node.
-use Rattle.std.proofs.Common.{◌≡◌, ℕ, zero, suc, ◌+◌, ◌<◌, ◌≤◌, ◌⊎◌, inl, inr, Bool, true, false, cond, not, ◌&&◌, List, [], ◌∷◌, ◌++◌, length, Option, None, Result, Ok, Err, refl, sym, ap, subst, ◌∙◌, arith}
+use Rattle.std.proofs.Common.{◌≡◌, ℕ, zero, suc, ◌+◌, ◌<◌, ◌≤◌, ◌⊎◌, inl, inr, Bool, true, false, cond, not, ◌&&◌, List, [], ◌∷◌, ◌++◌, length, None, Result, Ok, Err, refl, sym, ap, subst, ◌∙◌, arith}
 use Rattle.std.proofs.lemmas.Bool.{false≢true, and_parts, cases_lt, eq-eqb}
 use Rattle.std.proofs.lemmas.List.Elements.{filter-append}
 use Rattle.std.specs.List.{list_all, list_any, range_with_len}
-use Rattle.std.specs.Prelude.{◌==◌}
+use Rattle.std.specs.Prelude.{◌==◌, IsErrOf, IsOkUnless, OnOk}
 use Rattle.std.specs.FinMap.{contains_key}
 use Rattle.calvin_types.specs.declared.fault.Fault.{Fault}
 use Rattle.calvin_types.specs.declared.fault.Fault.TheVariants.{OutOfMemory, NotComplete, AdmittedOutOfOrder}
-use Rattle.calvin_types.specs.declared.place.NodeId.{NodeId}
 use Rattle.calvin_types.specs.declared.place.Place.{Place}
 use Rattle.calvin_types.specs.Orders.{Order}
 use Rattle.calvin_types.specs.Participants.{site, has_local_key}
 use Rattle.calvin_types.specs.Deeds.{Refuses, Does, Did}
-use Rattle.calvin_app.specs.Rows.{Rows}
-use Rattle.calvin_synod.specs.Deeds.{MemberState}
 use Rattle.calvin_order.specs.Configs.{Config, is_woven, woven}
-use Rattle.calvin_order.specs.Keeping.{Sequenced}
 use Rattle.calvin_order.specs.Merged.{Batch, joined, numbered}
-use Rattle.calvin_order.specs.Merging.{Merging, HoldsAll, batch_at}
+use Rattle.calvin_order.specs.Merging.{Merging, HoldsAll, IsComplete, batch_at}
 use Rattle.calvin_sched.specs.Keeping.{Scheduled}
 use Rattle.calvin_sched.specs.Progress.{left, merge}
 use Rattle.calvin_sched.specs.Scheduling.{Scheduling, is_done}
@@ -25,7 +21,8 @@ use Rattle.calvin_sched.specs.Standing.{local_places}
 use Rattle.calvin_acts.specs.NodeStates.{NodeState}
 use Rattle.calvin_acts.specs.Acting as acting
 use Rattle.calvin_acts.specs.Growing.{is_some_request}
-use Rattle.calvin_acts.specs.Running.{NodeDid, state_of}
+use Rattle.calvin_acts.specs.Running.{NodeDid}
+use Rattle.calvin_acts.specs.Layers.{Layer, Rest, state_of}
 use Rattle.calvin_acts.proofs.Settling.{left_again, running}
 
 -- ---- each number of a stretch passes
@@ -55,6 +52,11 @@ abbrev is_missing_batch : {T : Type 0} → Result T Fault → Bool
 is_missing_batch (Ok x) = false
 is_missing_batch (Err f) = is_missing f
 
+-- a merge passes an epoch that is complete
+pub passed : {Args : Type 0} (r : Result (Unit {0}) Fault) (m after : Merging Args) → IsComplete m → OnOk r (after ≡ record m { next = suc m.next }) → (IsErrOf r NotComplete → IsComplete m → ⊥) → IsOkUnless r NotComplete → after ≡ record m { next = suc m.next }
+passed (Ok done) m after whole next missing only = next
+passed (Err f) m after whole next missing only = absurd (missing (ap Err only) whole)
+
 -- ---- the requests of an epoch
 
 pub some_numbered : {Args : Type 0} (e n : ℕ) (batch : Batch Args) → 0 < length batch → is_some_request (numbered e n batch) ≡ true
@@ -82,25 +84,25 @@ module _ {Args Row : Type 0} (s : Scheduling Args Row) where
   left_of_later : (due more : List Place) → left s (due ++ left s more) ≡ left s due ++ left s more
   left_of_later due more = filter-append (λ q. not (is_done s q)) due (left s more) ∙ ap (λ l. left s due ++ l) (left_again s more)
 
-module _ {Args Row : Type 0} (Reply : Type 0) (c : Config) (id : NodeId) (member : MemberState (Batch Args)) (sequencer : Sequenced Args) (m : Merging Args) (pending : Order Args) (s : Scheduled Args Row) (kept : Option (ℕ × Rows Row)) where
+module _ {Args Row : Type 0} (Reply : Type 0) (c : Config) (l : Layer Args) (r : Rest Args Row) where
   abbrev at_first : NodeState Args Row
-  at_first = state_of id member sequencer m pending s kept
+  at_first = state_of l r
 
   abbrev next_order : Order Args
   next_order = acting.next_merged c at_first
 
   -- what the deed leaves
   abbrev after : NodeState Args Row
-  after = record at_first { merged_epochs = suc m.next; due = left s.scheduling s.due ++ local_places (site c.partitions id.partition) next_order; pending = pending ++ next_order }
+  after = record at_first { merged_epochs = suc l.merged_epochs; due = left r.scheduler.scheduling r.scheduler.due ++ local_places (site c.partitions l.id.partition) next_order; pending = r.pending ++ next_order }
 
-  pub complete_is : HoldsAll m.held m.next c.partitions → acting.is_complete c at_first ≡ true
-  complete_is all = all_from (λ g. contains_key m.held (record { epoch = m.next; group = g })) 0 c.partitions (λ g low high. all g (omega (arith, high)))
+  pub complete_is : HoldsAll l.held l.merged_epochs c.partitions → acting.is_complete c at_first ≡ true
+  complete_is all = all_from (λ g. contains_key l.held (record { epoch = l.merged_epochs; group = g })) 0 c.partitions (λ g low high. all g (omega (arith, high)))
 
-  there : acting.is_complete c at_first ≡ true → HoldsAll m.held m.next c.partitions
-  there all g less = all_of (λ g. contains_key m.held (record { epoch = m.next; group = g })) 0 c.partitions all g (omega arith) (omega (arith, less))
+  there : acting.is_complete c at_first ≡ true → HoldsAll l.held l.merged_epochs c.partitions
+  there all g less = all_of (λ g. contains_key l.held (record { epoch = l.merged_epochs; group = g })) 0 c.partitions all g (omega arith) (omega (arith, less))
 
   -- the deed, where a batch is missing
-  pub refused : ((HoldsAll m.held m.next c.partitions) → ⊥) → (grows : Bool) → NodeDid {Reply = Reply} grows (Err NotComplete) (acting.merge c at_first) (running c at_first) (running c at_first) [] []
+  pub refused : ((HoldsAll l.held l.merged_epochs c.partitions) → ⊥) → (grows : Bool) → NodeDid {Reply = Reply} grows (Err NotComplete) (acting.merge c at_first) (running c at_first) (running c at_first) [] []
   refused missing grows = go (acting.is_complete c at_first) refl
     where
       go : (b : Bool) → acting.is_complete c at_first ≡ b → NodeDid {Reply = Reply} grows (Err NotComplete) (acting.merge c at_first) (running c at_first) (running c at_first) [] []
@@ -112,11 +114,11 @@ module _ {Args Row : Type 0} (Reply : Type 0) (c : Config) (id : NodeId) (member
   wanting full some = subst (λ b. NodeDid {Reply = Reply} (is_some_request next_order) (Err OutOfMemory) (cond b (Does after []) (Refuses NotComplete)) (running c at_first) (running c at_first) [] []) (sym full) (some, refl, refl, refl)
 
   -- nothing is given of the next epoch: a batch of it is missing, or there was no room for its requests
-  pub not_given : {T : Type 0} (f : Fault) → (f ≡ NotComplete) ⊎ ((f ≡ OutOfMemory) × (0 < length (joined (batch_at m.held) m.next c.partitions))) → (◌≡◌ {A = Result T Fault} (Err f) (Err NotComplete) → HoldsAll m.held m.next c.partitions → ⊥) → ((HoldsAll m.held m.next c.partitions → ⊥) → ◌≡◌ {A = Result T Fault} (Err f) (Err NotComplete))
+  pub not_given : {T : Type 0} (f : Fault) → (f ≡ NotComplete) ⊎ ((f ≡ OutOfMemory) × (0 < length (joined (batch_at l.held) l.merged_epochs c.partitions))) → (◌≡◌ {A = Result T Fault} (Err f) (Err NotComplete) → HoldsAll l.held l.merged_epochs c.partitions → ⊥) → ((HoldsAll l.held l.merged_epochs c.partitions → ⊥) → ◌≡◌ {A = Result T Fault} (Err f) (Err NotComplete))
       → c.woven_from ≡ None → NodeDid {Reply = Reply} (is_some_request next_order) (Err f) (acting.merge c at_first) (running c at_first) (running c at_first) [] []
   not_given f (inl is) missing else whole = subst (λ g. NodeDid {Reply = Reply} (is_some_request next_order) (Err g) (acting.merge c at_first) (running c at_first) (running c at_first) [] []) (sym is) (refused (missing (ap Err is)) (is_some_request next_order))
   not_given f (inr both) missing else whole = subst (λ g. NodeDid {Reply = Reply} (is_some_request next_order) (Err g) (acting.merge c at_first) (running c at_first) (running c at_first) [] []) (sym both.0) (wanting (go (acting.is_complete c at_first) refl)
-      (ap (λ w. is_some_request (numbered m.next 0 (cond (is_woven w m.next) (woven (batch_at m.held) m.next c.partitions) (joined (batch_at m.held) m.next c.partitions)))) whole ∙ some_numbered m.next 0 (joined (batch_at m.held) m.next c.partitions) both.1))
+      (ap (λ w. is_some_request (numbered l.merged_epochs 0 (cond (is_woven w l.merged_epochs) (woven (batch_at l.held) l.merged_epochs c.partitions) (joined (batch_at l.held) l.merged_epochs c.partitions)))) whole ∙ some_numbered l.merged_epochs 0 (joined (batch_at l.held) l.merged_epochs c.partitions) both.1))
     where
       go : (b : Bool) → acting.is_complete c at_first ≡ b → acting.is_complete c at_first ≡ true
       go true is = is
@@ -124,31 +126,31 @@ module _ {Args Row : Type 0} (Reply : Type 0) (c : Config) (id : NodeId) (member
 
   -- what an epoch that is merged makes of the scheduler
   abbrev told : Order Args → Scheduled Args Row
-  told order = record s { merged = suc s.merged; due = s.due ++ left s.scheduling (local_places s.here order); due_room = 0 }
+  told order = record r.scheduler { merged = suc r.scheduler.merged; due = r.scheduler.due ++ left r.scheduler.scheduling (local_places r.scheduler.here order); due_room = 0 }
 
-  pub takes : (epoch : ℕ) (order : Order Args) → order ≡ next_order → epoch ≡ m.next → s.merged ≡ m.next → merge epoch order s ≡ Does (told order) tt
-  takes epoch order is at so_far = ap (λ b. cond b (Does (told order) tt) (Refuses AdmittedOutOfOrder)) (ap (λ b. b && list_all (λ e. e.0.epoch == epoch) order) (eq-eqb epoch s.merged (at ∙ sym so_far)) ∙ subst (λ o. list_all (λ e. e.0.epoch == epoch) o ≡ true) (sym is) (subst (λ n. list_all (λ e. e.0.epoch == n) next_order ≡ true) (sym at) (all_numbered m.next 0 _)))
+  pub takes : (epoch : ℕ) (order : Order Args) → order ≡ next_order → epoch ≡ l.merged_epochs → r.scheduler.merged ≡ l.merged_epochs → merge epoch order r.scheduler ≡ Does (told order) tt
+  takes epoch order is at so_far = ap (λ b. cond b (Does (told order) tt) (Refuses AdmittedOutOfOrder)) (ap (λ b. b && list_all (λ e. e.0.epoch == epoch) order) (eq-eqb epoch r.scheduler.merged (at ∙ sym so_far)) ∙ subst (λ o. list_all (λ e. e.0.epoch == epoch) o ≡ true) (sym is) (subst (λ n. list_all (λ e. e.0.epoch == n) next_order ≡ true) (sym at) (all_numbered l.merged_epochs 0 _)))
 
   -- the scheduler isn't told, for want of memory
-  pub untold : acting.is_complete c at_first ≡ true → (epoch : ℕ) (order : Order Args) → order ≡ next_order → epoch ≡ m.next → s.merged ≡ m.next → (f : Fault) (s' : Scheduled Args Row)
-      → Did {Out = Unit {0}} (list_any (λ e. has_local_key s.here e.1) order) (Err f) (merge epoch order s) s s' → (s' ≡ s) × NodeDid {Reply = Reply} (is_some_request next_order) (Err f) (acting.merge c at_first) (running c at_first) (running c at_first) [] []
+  pub untold : acting.is_complete c at_first ≡ true → (epoch : ℕ) (order : Order Args) → order ≡ next_order → epoch ≡ l.merged_epochs → r.scheduler.merged ≡ l.merged_epochs → (f : Fault) (s' : Scheduled Args Row)
+      → Did {Out = Unit {0}} (list_any (λ e. has_local_key r.scheduler.here e.1) order) (Err f) (merge epoch order r.scheduler) r.scheduler s' → (s' ≡ r.scheduler) × NodeDid {Reply = Reply} (is_some_request next_order) (Err f) (acting.merge c at_first) (running c at_first) (running c at_first) [] []
   untold full epoch order is at so_far f s' did =
-      let took = subst (λ d. Did {Out = Unit {0}} (list_any (λ e. has_local_key s.here e.1) order) (Err f) d s s') (takes epoch order is at so_far) did in (
+      let took = subst (λ d. Did {Out = Unit {0}} (list_any (λ e. has_local_key r.scheduler.here e.1) order) (Err f) d r.scheduler s') (takes epoch order is at so_far) did in (
         took.2,
         subst (λ g. NodeDid {Reply = Reply} (is_some_request next_order) (Err g) (acting.merge c at_first) (running c at_first) (running c at_first) [] []) (sym took.1)
-            (wanting full (ap is_some_request (sym is) ∙ some_of_any (λ e. has_local_key s.here e.1) order took.0)),
+            (wanting full (ap is_some_request (sym is) ∙ some_of_any (λ e. has_local_key r.scheduler.here e.1) order took.0)),
       )
 
   -- the epoch is merged
-  pub merging : acting.is_complete c at_first ≡ true → s.here ≡ site c.partitions id.partition → (epoch : ℕ) (order : Order Args) → order ≡ next_order → epoch ≡ m.next → s.merged ≡ m.next → (grows : Bool) (m' : Merging Args) (pending' : Order Args) (s' : Scheduled Args Row)
-      → Did (list_any (λ e. has_local_key s.here e.1) order) (Ok tt) (merge epoch order s) s s' → m' ≡ record m { next = suc m.next } → pending' ≡ pending ++ order
-      → NodeDid {Reply = Reply} grows (Ok tt) (acting.merge c at_first) (running c at_first) (running c (state_of id member sequencer m' pending' s' kept)) [] []
-  merging full here epoch order is at so_far grows m' pending' s' did passed appended =
-      let took = subst (λ d. Did (list_any (λ e. has_local_key s.here e.1) order) (Ok tt) d s s') (takes epoch order is at so_far) did in
-      let places = local_places (site c.partitions id.partition) next_order in
-      subst (λ b. NodeDid {Reply = Reply} grows (Ok tt) (cond b (Does after []) (Refuses NotComplete)) (running c at_first) (running c (state_of id member sequencer m' pending' s' kept)) [] []) (sym full) (
-        (λ i. running c (state_of id member sequencer (passed i) (appended i) (took.1 i) kept))
-            ∙ (λ i. running c (record at_first { merged_epochs = suc m.next; pending = pending ++ is i; due = left s.scheduling (s.due ++ left s.scheduling (local_places (here i) (is i))) }))
-            ∙ (λ i. running c (record after { due = (left_of_later s.scheduling s.due places ∙ sym (left_of_both s.scheduling s.due places)) i })),
+  pub merging : acting.is_complete c at_first ≡ true → r.scheduler.here ≡ site c.partitions l.id.partition → (epoch : ℕ) (order : Order Args) → order ≡ next_order → epoch ≡ l.merged_epochs → r.scheduler.merged ≡ l.merged_epochs → (grows : Bool) (l' : Layer Args) (pending' : Order Args) (s' : Scheduled Args Row)
+      → Did (list_any (λ e. has_local_key r.scheduler.here e.1) order) (Ok tt) (merge epoch order r.scheduler) r.scheduler s' → l' ≡ record l { merged_epochs = suc l.merged_epochs } → pending' ≡ r.pending ++ order
+      → NodeDid {Reply = Reply} grows (Ok tt) (acting.merge c at_first) (running c at_first) (running c (state_of l' (record r { pending = pending'; scheduler = s' }))) [] []
+  merging full here epoch order is at so_far grows l' pending' s' did passed appended =
+      let took = subst (λ d. Did (list_any (λ e. has_local_key r.scheduler.here e.1) order) (Ok tt) d r.scheduler s') (takes epoch order is at so_far) did in
+      let places = local_places (site c.partitions l.id.partition) next_order in
+      subst (λ b. NodeDid {Reply = Reply} grows (Ok tt) (cond b (Does after []) (Refuses NotComplete)) (running c at_first) (running c (state_of l' (record r { pending = pending'; scheduler = s' }))) [] []) (sym full) (
+        (λ i. running c (state_of (passed i) (record r { pending = appended i; scheduler = took.1 i })))
+            ∙ (λ i. running c (record at_first { merged_epochs = suc l.merged_epochs; pending = r.pending ++ is i; due = left r.scheduler.scheduling (r.scheduler.due ++ left r.scheduler.scheduling (local_places (here i) (is i))) }))
+            ∙ (λ i. running c (record after { due = (left_of_later r.scheduler.scheduling r.scheduler.due places ∙ sym (left_of_both r.scheduler.scheduling r.scheduler.due places)) i })),
         refl,
       )

@@ -9,11 +9,12 @@ use Rattle.calvin_types.specs.declared.fault.Fault.{Fault}
 use Rattle.calvin_types.specs.declared.fault.Fault.TheVariants.{Older}
 use Rattle.calvin_types.specs.declared.place.Place.{Place}
 use Rattle.calvin_types.specs.Orders.{Order}
+use Rattle.calvin_types.specs.Participants.{site}
 use Rattle.calvin_types.specs.Deeds.{Deed, Refuses, Does, Did}
 use Rattle.calvin_order.specs.Configs.{Config}
 use Rattle.calvin_order.specs.Sequencing.{Sequencing}
 use Rattle.calvin_app.specs.Rows.{Rows}
-use Rattle.calvin_sched.specs.Keeping.{takes_effect}
+use Rattle.calvin_sched.specs.Keeping.{Scheduled, takes_effect}
 use Rattle.calvin_sched.specs.Progress.{left}
 use Rattle.calvin_sched.specs.Scheduling.{Scheduling, is_done}
 use Rattle.calvin_acts.specs.NodeStates.{NodeState, with_sequencer}
@@ -21,6 +22,7 @@ use Rattle.calvin_packets.specs.declared.packet.Packet.{Packet}
 use Rattle.calvin_acts.specs.Handling.{NodeDeed, by_scheduler}
 use Rattle.calvin_acts.specs.Acting.{by_sequencer, lock_by, snapshot_by}
 use Rattle.calvin_acts.specs.Running.{Running, NodeDid}
+use Rattle.calvin_acts.specs.Layers.{Layer, IsOf, IsNode}
 
 -- what passes once passes again
 pub filter_again : {A : Type 0} (p : A → Bool) (xs : List A) → filter p (filter p xs) ≡ filter p xs
@@ -66,6 +68,12 @@ module _ {Args Row : Type 0} (Reply : Type 0) (c : Config) (x : NodeState Args R
   sequenced grows (Ok out) (Does s given) next h = (λ i. running c (record x { sequencer = h.1 i; due = (sym is) i }), refl)
   sequenced grows (Err e) (Refuses f) next h = (h.0, ap (λ s. running c (with_sequencer x s)) h.1, refl)
   sequenced grows (Err e) (Does s given) next h = (refl, h.1, ap (λ s. running c (with_sequencer x s)) h.2, refl)
+
+  -- and some packets are sent
+  pub sequenced_and_sent : {Out : Type 0} (grows : Bool) (out : Out) (d : Deed (Sequencing Args) Out) (next : Sequencing Args) (packets sent all : List (Packet Args Row Reply)) → Did grows (Ok out) d x.sequencer next → all ≡ sent ++ packets
+      → NodeDid true (Ok tt) (by_sequencer x packets d) (running c x) (running c (with_sequencer x next)) sent all
+  sequenced_and_sent grows out (Refuses f) next packets sent all h e = h
+  sequenced_and_sent grows out (Does s given) next packets sent all h e = (λ i. running c (record x { sequencer = h.1 i; due = (sym is) i }), e)
 
   -- ---- the scheduler
 
@@ -121,3 +129,15 @@ first_and_rest (y ∷ ys) x some at = ap (λ z. z ∷ ys) (sym at)
 pub copied_some : {A : Type 0} (o : Option (Bor A)) → is_some (option_copied o) ≡ is_some o
 copied_some None = refl
 copied_some (Some r) = refl
+
+-- the scheduler is still of its node
+pub still_node : {Args Row : Type 0} (l k : Layer Args) (s : Scheduled Args Row) → IsOf l k → IsNode l s → IsNode k s
+still_node l k s same node = record {
+  here = node.here ∙ (λ i. site (sym same.partitions i) (sym same.id i).partition);
+  merged = node.merged ∙ sym same.merged;
+}
+
+-- nothing is there where no copy is
+pub none_there : {A : Type 0} (o : Option A) → is_some o ≡ false → o ≡ None
+none_there None e = refl
+none_there (Some x) e = absurd (false≢true (sym e))

@@ -5,27 +5,18 @@
 --     kept_epochs kept      how many epochs the last snapshot has
 --     kept_rows kept      its rows
 --     config_of partitions replicas points cold delay      what a store is opened with, in which no batch is woven
---     state_of id member sequencer merge pending scheduler kept      the data of a node with these parts
---     IsNode partitions replicas id member merge scheduler      the parts of a node are of its store and its name
 --     NodeFinished m job result old new sent all      what a job that was run made of a node, and of what it sent
 --     NodeDid grows result deed old new sent all      what a call made of a node, and of what it sent, by the deed
 use Rattle.std.specs.Prelude.{◌≡◌, ◌⊎◌, ℕ, suc, ◌++◌, Bool, true, List, Option, Some, None, Result, Ok, Err}
 use Rattle.std.specs.FinMap.{empty}
 use Rattle.calvin_types.specs.declared.fault.Fault.{Fault}
 use Rattle.calvin_types.specs.declared.fault.Fault.TheVariants.{OutOfMemory}
-use Rattle.calvin_types.specs.declared.place.NodeId.{NodeId}
-use Rattle.calvin_types.specs.Orders.{Order}
 use Rattle.calvin_types.specs.Deeds.{Refuses, Does}
-use Rattle.calvin_types.specs.Participants.{site}
 use Rattle.calvin_app.specs.declared.job.Job.{Job}
 use Rattle.calvin_app.specs.Meaning.{Meaning}
 use Rattle.calvin_app.specs.Rows.{Rows}
-use Rattle.calvin_synod.specs.Deeds.{MemberState}
 use Rattle.calvin_order.specs.Configs.{Config}
-use Rattle.calvin_order.specs.Keeping.{Sequenced}
-use Rattle.calvin_order.specs.Merged.{Batch}
-use Rattle.calvin_order.specs.Merging.{Merging}
-use Rattle.calvin_sched.specs.Keeping.{Scheduled, IsNotDue}
+use Rattle.calvin_sched.specs.Keeping.{IsNotDue}
 use Rattle.calvin_sched.specs.Progress.{left}
 use Rattle.calvin_sched.specs.Steps.{job}
 use Rattle.calvin_packets.specs.declared.packet.Packet.{Packet}
@@ -53,29 +44,6 @@ module _ {Row : Type 0} where
 -- what a store of so many partitions and replicas is opened with, in which no batch is woven
 abbrev pub config_of : ℕ → ℕ → Bool → Bool → ℕ → Config
 config_of partitions replicas points cold delay = record { replicas = replicas; partitions = partitions; points = points; cold = cold; delay = delay; woven_from = None }
-
-module _ {Args Row : Type 0} where
-  abbrev pub state_of : NodeId → MemberState (Batch Args) → Sequenced Args → Merging Args → Order Args → Scheduled Args Row → Option (ℕ × Rows Row) → NodeState Args Row
-  state_of id member sequencer merge pending scheduler kept = record {
-    id = id;
-    synod = member.replica;
-    sequencer = sequencer.sequencing;
-    held = merge.held;
-    merged_epochs = merge.next;
-    due = left scheduler.scheduling scheduler.due;
-    pending = pending;
-    scheduler = scheduler.scheduling;
-    kept_epochs = kept_epochs kept;
-    kept_rows = kept_rows kept;
-  }
-
-pub record IsNode {Args Row : Type 0} (partitions replicas : ℕ) (id : NodeId) (member : MemberState (Batch Args)) (merge : Merging Args) (scheduler : Scheduled Args Row) : Type 0 where
-  pub group_size : member.size ≡ replicas
-  pub replica : member.me ≡ id.replica
-  pub groups : merge.partitions ≡ partitions
-  pub here : scheduler.here ≡ site partitions id.partition
-  -- the scheduler was told of each epoch that is merged
-  pub merged : scheduler.merged ≡ merge.next
 
 module _ {Args Row Reply : Type 0} where
   -- the deed takes effect: the node is what it leaves, settled, and its packets are sent after the others; or it is its refusal, and nothing changed; or memory ran out, where something grows, and nothing changed

@@ -49,7 +49,7 @@ impl<A: App, L: Locks + Drop, S: Rows<A::Row> + Drop> Node<A, L, S> {
         let mut answer = Answer::Changed;
         let name = self.scheduler.run(place, app, &mut answer)?;
         outbox.push_reserved(Packet {
-            from: self.id,
+            from: self.layer.id(),
             to: Address::AtClient(name.0.client),
             content: Content::Replies(place, name.0, name.1, answer),
         });

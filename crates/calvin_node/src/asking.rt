@@ -14,39 +14,19 @@ use calvin_store::Rows;
 use calvin_types::{Fault, Few, NodeId, Place, Slot};
 
 impl<A: App, L: Locks + Drop, S: Rows<A::Row> + Drop> Node<A, L, S> {
-    /// Whether there is such a node, and such a slot.
-    fn is_there(&self, of: NodeId, slot: Slot) -> bool
-        ensures { result ≡ (nat_lt of.replica self.now.config.replicas && nat_lt of.partition self.now.config.partitions && nat_lt slot.group self.now.config.partitions) }
-    {
-        of.replica < self.config.replicas
-            && of.partition < self.config.partitions
-            && slot.group < self.config.partitions
-    }
-
     /// Asks a node for the batch of a slot. Refused with `NoNode` where there is no such node or group, with `Known` where the
     /// batch is held, else with `OutOfMemory` where a growth was refused.
     pub fn ask_batch(&self, slot: Slot, of: NodeId, outbox: &mut Outbox<A>) -> Result<(), Fault>
         ensures did { NodeDid true result (acting.ask_batch self.now.config slot of self.now.state) self.now self.now outbox.old.packets outbox.new.packets }
     {
-        self.scheduler.due_is_undone();
-        if !self.is_there(of, slot) {
-            return Err(Fault::NoNode);
-        }
-        if self.merge.held(slot).is_some() {
-            return Err(Fault::Known);
-        }
-        outbox.push(Packet {
-            from: self.id,
-            to: Address::AtNode(of),
-            content: Content::AskBatch(slot),
-        })
+        self.layer.ask_batch(slot, of, outbox)
     }
 
     /// Whether rows of another partition are awaited for the request at a place.
     fn is_awaited(&self, place: Place, other: u8) -> bool
         ensures { result ≡ (not (other == self.now.state.id.partition) && awaits_at (site_of self.now.config.partitions self.now.state) (turn_at self.now.state.scheduler place) other) }
     {
-        other != self.id.partition && self.scheduler.awaits(place, other)
+        other != self.layer.id().partition && self.scheduler.awaits(place, other)
     }
 
     /// The partitions whose rows are awaited for the request at a place, ascending.
@@ -54,7 +34,7 @@ impl<A: App, L: Locks + Drop, S: Rows<A::Row> + Drop> Node<A, L, S> {
         ensures { result ≡ acting.awaited_from self.now.config self.now.state (turn_at self.now.state.scheduler place) }
     {
         let mut awaited = Few::new();
-        for other in 0..self.config.partitions {
+        for other in 0..self.layer.config().partitions {
             if self.is_awaited(place, other) {
                 awaited.push(other);
             }
@@ -69,13 +49,13 @@ impl<A: App, L: Locks + Drop, S: Rows<A::Row> + Drop> Node<A, L, S> {
         ensures did { NodeDid true result (acting.ask_reads self.now.config place replica self.now.state) self.now self.now outbox.old.packets outbox.new.packets }
     {
         self.scheduler.due_is_undone();
-        if replica >= self.config.replicas {
+        if replica >= self.layer.config().replicas {
             return Err(Fault::NoNode);
         }
         let awaited = self.awaited_from(place);
         if awaited.len() == 0 {
             return Err(Fault::NotAwaited);
         }
-        outbox.post_to_each(self.id, replica, &Content::AskReads(place), &awaited)
+        outbox.post_to_each(self.layer.id(), replica, &Content::AskReads(place), &awaited)
     }
 }

@@ -11,9 +11,9 @@ use crate::node::Node;
 use calvin_acts::{first_epoch, scheduler_from};
 use calvin_app::App;
 use calvin_lock::Locks;
-use calvin_order::{Merge, Sequencer};
+use calvin_sequencing::SequencingLayer;
 use calvin_store::{Rows, Snapshot};
-use calvin_synod::{Member, SynodRecord};
+use calvin_synod::SynodRecord;
 use calvin_types::{Config, Fault, NodeId};
 use std::alloc::Global;
 use std::collections::VecDeque;
@@ -48,13 +48,10 @@ impl<A: App, L: Locks + Drop, S: Rows<A::Row> + Drop> Node<A, L, S> {
     pub fn restart(&mut self) -> Result<(), Fault>
         ensures did { NodeDid {Reply = A.Reply} (act_grows self.old.config act.Restart self.old.state) result (acting.restart self.old.state) self.old self.new [] [] }
     {
-        let scheduler = scheduler_from(self.alloc, &self.config, self.id.partition, &self.kept)?;
-        let first = first_epoch(&self.kept);
-        self.member.restart();
-        self.sequencer = Sequencer::from_epoch(self.alloc, self.sequencer.delay(), first);
-        self.merge = Merge::from_epoch(self.alloc, &self.config, first);
+        let own = self.layer.id().partition;
+        self.scheduler = scheduler_from(self.alloc, self.layer.config(), own, &self.kept)?;
+        self.layer.restart(first_epoch(&self.kept));
         self.pending = VecDeque::new(self.alloc);
-        self.scheduler = scheduler;
         Ok(())
     }
 
@@ -63,7 +60,7 @@ impl<A: App, L: Locks + Drop, S: Rows<A::Row> + Drop> Node<A, L, S> {
         ensures { result ≡ durable_of self.config self.state }
     {
         Durable {
-            synod: self.member.into_record(),
+            synod: self.layer.into_record(),
             kept: self.kept,
         }
     }
@@ -88,11 +85,7 @@ impl<A: App, L: Locks + Drop, S: Rows<A::Row> + Drop> Node<A, L, S> {
         let first = first_epoch(&durable.kept);
         Ok(Node {
             alloc,
-            config: *config,
-            id,
-            member: Member::from_record(alloc, config, id.replica, durable.synod),
-            sequencer: Sequencer::from_epoch(alloc, config.delay, first),
-            merge: Merge::from_epoch(alloc, config, first),
+            layer: SequencingLayer::from_record(alloc, config, id, durable.synod, first),
             pending: VecDeque::new(alloc),
             scheduler,
             kept: durable.kept,

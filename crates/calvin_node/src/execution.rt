@@ -63,8 +63,8 @@ impl<A: App, L: Locks + Drop, S: Rows<A::Row> + Drop> Node<A, L, S> {
             outbox.new.packets ≡ outbox.old.packets ++ to_each self.now.state.id self.now.state.id.replica (Reads place x.served) (other_active here x.request)) }
     {
         if let Some(turn) = self.scheduler.turn(place) {
-            let others = turn.others(&self.config, self.id.partition);
-            outbox.post_reads(self.id, place, turn.served(), &others);
+            let others = turn.others(self.layer.config(), self.layer.id().partition);
+            outbox.post_reads(self.layer.id(), place, turn.served(), &others);
         }
     }
 
@@ -90,7 +90,7 @@ impl<A: App, L: Locks + Drop, S: Rows<A::Row> + Drop> Node<A, L, S> {
         let answer = self.scheduler.finish(computed)?;
         let txn = &computed.job.txn;
         outbox.push_reserved(Packet {
-            from: self.id,
+            from: self.layer.id(),
             to: Address::AtClient(txn.id.client),
             content: Content::Replies(computed.job.place, txn.id, txn.attempt, answer),
         });

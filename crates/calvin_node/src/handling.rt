@@ -1,6 +1,5 @@
 //! What a node makes of a packet.
 ghost use Rattle.std.specs.Prelude.{[], false, true};
-ghost use Rattle.std.specs.FinMap as map;
 ghost use Rattle.calvin_sched.specs.Scheduling.{turn_at};
 ghost use Rattle.calvin_sched.specs.Standing as standing;
 ghost use Rattle.calvin_sched.specs.Steps as steps;
@@ -11,12 +10,11 @@ ghost use Rattle.calvin_acts.specs.NodeStates.{site_of};
 ghost use Rattle.calvin_acts.specs.Running.{NodeDid};
 
 use crate::node::Node;
-use calvin_acts::{keep, make_room};
 use calvin_app::{App, View};
 use calvin_lock::Locks;
 use calvin_packets::{Address, Content, Outbox, Packet};
 use calvin_store::Rows;
-use calvin_types::{Batch, Fault, NodeId, Place, Sets, Slot};
+use calvin_types::{Fault, NodeId, Place, Sets};
 
 impl<A: App, L: Locks + Drop, S: Rows<A::Row> + Drop> Node<A, L, S> {
     /// A packet reaches the node, and what it says is done. Refused with `NotMine` where it is for another node or a client, is
@@ -32,7 +30,7 @@ impl<A: App, L: Locks + Drop, S: Rows<A::Row> + Drop> Node<A, L, S> {
     ) -> Result<(), Fault>
         ensures did { NodeDid (content_grows self.old.config packet.now.content) result (handling.handle self.old.config packet.now self.old.state) self.old self.new outbox.old.packets outbox.new.packets }
     {
-        if !packet.to.is_for(self.id) {
+        if !packet.to.is_for(self.layer.id()) {
             return Err(Fault::NotMine);
         }
         self.handle_content(packet.from, &packet.content, outbox)
@@ -48,45 +46,14 @@ impl<A: App, L: Locks + Drop, S: Rows<A::Row> + Drop> Node<A, L, S> {
         ensures did { NodeDid (content_grows self.old.config content.now) result (handling.handle_content self.old.config from content.now self.old.state) self.old self.new outbox.old.packets outbox.new.packets }
     {
         match content {
-            Content::Synod(message) => self.on_synod(from, message, outbox),
-            Content::Decided(slot, batch) => self.on_decided(*slot, batch),
-            Content::AskBatch(slot) => self.on_ask_batch(from, *slot, outbox),
+            Content::Synod(message) => self.layer.on_synod(from, message, outbox),
+            Content::Decided(slot, batch) => self.layer.on_decided(*slot, batch),
+            Content::AskBatch(slot) => self.layer.on_ask_batch(from, *slot, outbox),
             Content::Reads(place, rows) => self.on_reads(from.partition, *place, rows),
             Content::AskReads(place) => self.on_ask_reads(from, *place, outbox),
             Content::Warm(sets) => self.on_warm(sets),
             Content::Replies(..) => Err(Fault::NotMine),
         }
-    }
-
-    /// The batch of a slot is decided: it is held (Thomson et al. 2012, section 3.1). Refused with `Known` where one is.
-    fn on_decided(&mut self, slot: Slot, batch: &Batch<A::Args>) -> Result<(), Fault>
-        ensures did { NodeDid {Reply = A.Reply} true result (handling.on_decided slot batch.now self.old.state (map.get self.old.state.held slot)) self.old self.new [] [] }
-    {
-        self.scheduler.due_is_undone();
-        if self.merge.held(slot).is_some() {
-            return Err(Fault::Known);
-        }
-        let batch = batch.copy()?;
-        let own = self.id.partition;
-        make_room(&mut self.merge, &mut self.sequencer, own, slot)?;
-        keep(&mut self.merge, &mut self.sequencer, own, slot, batch);
-        Ok(())
-    }
-
-    /// The batch of a slot is told to a node that asks for it. Refused with `NoBatch` where none is held.
-    fn on_ask_batch(&self, from: NodeId, slot: Slot, outbox: &mut Outbox<A>) -> Result<(), Fault>
-        ensures did { NodeDid true result (handling.on_ask_batch from slot self.now.state (map.get self.now.state.held slot)) self.now self.now outbox.old.packets outbox.new.packets }
-    {
-        self.scheduler.due_is_undone();
-        let Some(batch) = self.merge.held(slot) else {
-            return Err(Fault::NoBatch);
-        };
-        let batch = batch.copy()?;
-        outbox.push(Packet {
-            from: self.id,
-            to: Address::AtNode(from),
-            content: Content::Decided(slot, batch),
-        })
     }
 
     /// The rows that another partition read for the request at a place are kept (section 3.2: remote reads). Refused with
@@ -109,7 +76,7 @@ impl<A: App, L: Locks + Drop, S: Rows<A::Row> + Drop> Node<A, L, S> {
         }
         let rows = self.scheduler.served(place)?;
         outbox.push(Packet {
-            from: self.id,
+            from: self.layer.id(),
             to: Address::AtNode(from),
             content: Content::Reads(place, rows),
         })

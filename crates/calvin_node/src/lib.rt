@@ -3,12 +3,10 @@
 #![tactic(auto)]
 
 mod acting;
-mod agreement;
 mod asking;
 mod durable;
 mod execution;
 mod handling;
-mod letters;
 mod node;
 mod ordering;
 mod snapshots;

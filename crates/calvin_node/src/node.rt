@@ -8,19 +8,18 @@ ghost use Rattle.calvin_acts.specs.Running.{config_of};
 
 use calvin_app::App;
 use calvin_lock::Locks;
-use calvin_order::{Merge, Sequencer};
 use calvin_sched::Scheduler;
+use calvin_sequencing::SequencingLayer;
 use calvin_store::{Rows, Snapshot};
-use calvin_synod::Member;
 use calvin_types::{Batch, Config, NodeId, Place, Slot, Txn};
 use std::alloc::Global;
 use std::collections::VecDeque;
 use std::marker::Model;
 
-/// Partition p of replica r (Thomson et al. 2012, section 3): a sequencer, which gathers requests into batches; the replica's
-/// roles in the synods of its group, which agrees on them; the batches that are held, which are merged into one order; and
-/// the scheduler of the partition, over any lock manager and any keeper of rows. Of all this the synods' promises and votes,
-/// the greatest round used and the last snapshot are its durable record.
+/// Partition p of replica r (Thomson et al. 2012, section 3): its sequencing layer, with a sequencer, which gathers requests
+/// into batches, the replica's roles in the synods of its group, which agrees on them, and the batches that are held, which are
+/// merged into one order; and the scheduler of the partition, over any lock manager and any keeper of rows. Of all this the
+/// synods' promises and votes, the greatest round used and the last snapshot are its durable record.
 ///
 /// Each event of a node is one call. Where it takes effect the node is what the event's case leaves, and the packets that
 /// it sends are appended to the outbox that the call is handed; else the call is the refusal of that case, and nothing
@@ -28,11 +27,7 @@ use std::marker::Model;
 #[derive(Drop)]
 pub struct Node<A: App, L: Locks + Drop, S: Rows<A::Row> + Drop> {
     pub(crate) alloc: Global,
-    pub(crate) config: Config,
-    pub(crate) id: NodeId,
-    pub(crate) member: Member<A::Args>,
-    pub(crate) sequencer: Sequencer<A::Args>,
-    pub(crate) merge: Merge<A::Args>,
+    pub(crate) layer: SequencingLayer<A>,
     pub(crate) pending: VecDeque<(Place, Txn<A::Args>)>,
     pub(crate) scheduler: Scheduler<A, L, S>,
     pub(crate) kept: Option<(u64, Snapshot<A::Row>)>,
@@ -41,18 +36,16 @@ pub struct Node<A: App, L: Locks + Drop, S: Rows<A::Row> + Drop> {
 impl<A: App, L: Locks + Drop, S: Rows<A::Row> + Drop> Model for Node<A, L, S> {
     ghost use Rattle.std.specs.Coded.{codes};
     ghost use Rattle.std.specs.FinMap.{code};
-    ghost use Rattle.calvin_acts.specs.Running.{Running, IsNode, config_of, state_of};
+    ghost use Rattle.calvin_acts.specs.Layers.{IsNode, node_of, rest_of};
+    ghost use Rattle.calvin_acts.specs.Running.{Running};
 
     ghost Value = { Running A.Args A.Row };
 
     ghost coded = { Prim.hlevel (codes, code) };
 
-    ghost view = { λ n. record {
-      config = config_of n.config.partitions n.config.replicas S.points S.cold n.sequencer.delay;
-      state = state_of n.id n.member n.sequencer n.merge n.pending.items n.scheduler n.kept;
-    } };
+    ghost view = { λ n. node_of n.layer (rest_of S.points S.cold n.pending.items n.scheduler n.kept) };
 
-    ghost invariant = { λ n. IsNode n.config.partitions n.config.replicas n.id n.member n.merge n.scheduler };
+    ghost invariant = { λ n. IsNode n.layer n.scheduler };
 }
 
 impl<A: App, L: Locks + Drop, S: Rows<A::Row> + Drop> Node<A, L, S> {
@@ -63,11 +56,7 @@ impl<A: App, L: Locks + Drop, S: Rows<A::Row> + Drop> Node<A, L, S> {
     {
         Node {
             alloc,
-            config: *config,
-            id,
-            member: Member::new(alloc, config, id.replica),
-            sequencer: Sequencer::new(alloc, config.delay),
-            merge: Merge::new(alloc, config),
+            layer: SequencingLayer::new(alloc, config, id),
             pending: VecDeque::new(alloc),
             scheduler: Scheduler::new(alloc, config, id.partition),
             kept: None,
@@ -78,7 +67,7 @@ impl<A: App, L: Locks + Drop, S: Rows<A::Row> + Drop> Node<A, L, S> {
     pub fn id(&self) -> NodeId
         ensures { result ≡ self.now.state.id }
     {
-        self.id
+        self.layer.id()
     }
 
     /// The epoch whose batch is closed next, if one is left below 2^64: the least one, from the first one since the last
@@ -86,20 +75,20 @@ impl<A: App, L: Locks + Drop, S: Rows<A::Row> + Drop> Node<A, L, S> {
     pub fn next_epoch(&self) -> Option<u64>
         ensures { MatchOption result (next_epoch self.now.state.sequencer ≡ 2 ^ 64) (λ epoch. epoch ≡ next_epoch self.now.state.sequencer) }
     {
-        self.sequencer.next_epoch()
+        self.layer.next_epoch()
     }
 
     /// How many requests are queued.
     pub fn queued(&self) -> usize
         ensures { result ≡ length self.now.state.sequencer.queue }
     {
-        self.sequencer.queued()
+        self.layer.queued()
     }
 
     /// The batch that is held for a slot.
     pub fn held(&self, slot: Slot) -> Option<&Batch<A::Args>>
         ensures { option_copied result ≡ map.get self.now.state.held slot }
     {
-        self.merge.held(slot)
+        self.layer.held(slot)
     }
 }

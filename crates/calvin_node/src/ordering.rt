@@ -19,14 +19,14 @@ impl<A: App, L: Locks + Drop, S: Rows<A::Row> + Drop> Node<A, L, S> {
     pub fn merge(&mut self) -> Result<(), Fault>
         ensures did { NodeDid {Reply = A.Reply} (act_grows self.old.config act.Merge self.old.state) result (acting.merge self.old.config self.old.state) self.old self.new [] [] }
     {
-        let requests = self.merge.next_requests()?;
-        let Some(epoch) = self.merge.next() else {
+        let requests = self.layer.next_requests()?;
+        let Some(epoch) = self.layer.next_to_merge() else {
             return Err(Fault::NotComplete);
         };
         self.scheduler.due_is_undone();
         reserve_merged(&mut self.pending, requests.len())?;
         self.scheduler.merged(epoch, &requests)?;
-        self.merge.pass_epoch()?;
+        self.layer.pass_epoch();
         append_merged(&mut self.pending, requests);
         Ok(())
     }

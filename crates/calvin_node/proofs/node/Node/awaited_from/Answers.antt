@@ -29,5 +29,5 @@ returns g c =
     let n = c.args.self.now in
     let turn = turn_at n.state.scheduler c.args.place in
     c.loop-other.invariant.so_far
-    ∙ ap (λ k. filter (λ q. not (q == n.state.id.partition) && awaits_at (site_of n.config.partitions n.state) turn q) (range_with_len 0 k)) (between c.loop-other.other c.self.inside.config.partitions c.loop-other.auto.other-end c.loop-other-test.false ∙ ap (λ v. v.config.partitions) c.self.view_is)
+    ∙ ap (λ k. filter (λ q. not (q == n.state.id.partition) && awaits_at (site_of n.config.partitions n.state) turn q) (range_with_len 0 k)) (between c.loop-other.other c.config.result.now.partitions c.loop-other.auto.other-end c.loop-other-test.false ∙ c.config.ensures.partitions ∙ ap (λ v. v.config.partitions) c.self.view_is)
     ∙ awaited_is n.config n.state turn

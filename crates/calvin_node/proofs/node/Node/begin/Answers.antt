@@ -10,7 +10,8 @@ use Rattle.calvin_acts.specs.Acting as acting
 use Rattle.calvin_acts.specs.Growing.{act_grows}
 use Rattle.calvin_packets.specs.Packets.{to_each}
 use Rattle.calvin_acts.specs.NodeStates.{site_of}
-use Rattle.calvin_acts.specs.Running.{NodeDid, config_of, state_of}
+use Rattle.calvin_acts.specs.Layers.{rest_of, state_of}
+use Rattle.calvin_acts.specs.Running.{NodeDid, config_of}
 use Rattle.calvin_sched.proofs.Begins.{has_begun}
 use Rattle.calvin_acts.proofs.Settling.{running, left_then}
 use Rattle.calvin_acts.proofs.Beginning.{begun}
@@ -19,12 +20,13 @@ use Rattle.calvin_node.proofs.node.Node.begin.Goals as goal
 pub returns-then-not-reads_here : goal.returns-then-not-reads_here
 returns-then-not-reads_here g c =
     let p = c.self.inside in
-    let x = state_of p.id p.member p.sequencer p.merge p.pending.items p.scheduler p.kept in
-    let config = config_of p.config.partitions p.config.replicas g.S.Rows.points g.S.Rows.cold p.sequencer.delay in
+    let below = rest_of g.S.Rows.points g.S.Rows.cold p.pending.items p.scheduler p.kept in
+    let x = state_of p.layer below in
+    let config = config_of p.layer.partitions p.layer.replicas g.S.Rows.points g.S.Rows.cold p.layer.delay in
     let reply = g.row.A-Reply.Denot in
     let s = c.begin_in_place.new.self.scheduling in
     let sent = c.args.outbox.now.packets in
-    let here = site_of p.config.partitions x in
+    let here = site_of p.layer.partitions x in
     let begun_here = has_begun here c.args.place p.scheduler.scheduling s (subst (λ h. Did false (Ok tt) (steps.silently (steps.begin h c.args.place p.scheduler.scheduling)) p.scheduler.scheduling s) c.self.invariant.here c.in_ok-begin_in_place.ensures.did) in
     let out = steps.serving here begun_here.0 in
     let did = begun_here.2 in
@@ -39,13 +41,14 @@ returns-then-not-reads_here g c =
 pub returns : goal.returns
 returns g c =
     let p = c.self.inside in
-    let x = state_of p.id p.member p.sequencer p.merge p.pending.items p.scheduler p.kept in
-    let config = config_of p.config.partitions p.config.replicas g.S.Rows.points g.S.Rows.cold p.sequencer.delay in
+    let below = rest_of g.S.Rows.points g.S.Rows.cold p.pending.items p.scheduler p.kept in
+    let x = state_of p.layer below in
+    let config = config_of p.layer.partitions p.layer.replicas g.S.Rows.points g.S.Rows.cold p.layer.delay in
     let reply = g.row.A-Reply.Denot in
     let s = c.begin_in_place-2.new.self.scheduling in
     let sent = c.args.outbox.now.packets in
     let all = c.post_served.new.outbox.packets in
-    let here = site_of p.config.partitions x in
+    let here = site_of p.layer.partitions x in
     let begun_here = has_begun here c.args.place p.scheduler.scheduling s (subst (λ h. Did false (Ok tt) (steps.silently (steps.begin h c.args.place p.scheduler.scheduling)) p.scheduler.scheduling s) c.self.invariant.here c.in_ok-begin_in_place-2.ensures.did) in
     let out = steps.serving here begun_here.0 in
     let did = begun_here.2 in
@@ -55,5 +58,5 @@ returns g c =
           (subst (λ d. NodeDid {Reply = reply} (act_grows config (Begin c.args.place) x) (Ok tt) (acting.begin config c.args.place x) (running config x) (running config (record x { scheduler = s; due = d })) sent all)
           (sym (left_then p.scheduler.scheduling s p.scheduler.due c.begin_in_place-2.new.self.due c.in_ok-begin_in_place-2.ensures.due c.due_is_undone.ensures))
           (begun reply config x c.args.place sent out s did true read all
-          (c.post_served.ensures begun_here.0 begun_here.1 ∙ ap (λ ps. ps ++ to_each p.id p.id.replica (Reads c.args.place out.rows) out.others) c.in_ok-reserve.ensures.packets)));
+          (c.post_served.ensures begun_here.0 begun_here.1 ∙ ap (λ ps. ps ++ to_each p.layer.id p.layer.id.replica (Reads c.args.place out.rows) out.others) c.in_ok-reserve.ensures.packets)));
     }

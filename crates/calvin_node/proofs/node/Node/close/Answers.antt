@@ -1,35 +1,15 @@
-use Rattle.std.proofs.Common.{[], true, not, Ok, Err, sym, ap, subst, ◌∙◌}
-use Rattle.std.proofs.lemmas.Result.{err_from_is_err_and}
-use Rattle.calvin_order.specs.Keeping.{can_close}
-use Rattle.calvin_order.specs.Sequencing as sequencing
+use Rattle.std.proofs.Common.{[], true, subst}
 use Rattle.calvin_acts.specs.Acting as acting
-use Rattle.calvin_acts.specs.NodeStates.{with_sequencer}
-use Rattle.calvin_acts.specs.Running.{NodeDid, config_of, state_of}
-use Rattle.calvin_acts.proofs.Settling.{running, left_again, sequenced}
+use Rattle.calvin_acts.specs.Layers.{rest_of, node_of}
+use Rattle.calvin_acts.specs.Running.{NodeDid}
+use Rattle.calvin_acts.proofs.Settling.{still_node}
 use Rattle.calvin_node.proofs.node.Node.close.Goals as goal
 
-pub returns-in_err-_epoch : goal.returns-in_err-_epoch
-returns-in_err-_epoch g c =
-    let p = c.self.inside in
-    let x = state_of p.id p.member p.sequencer p.merge p.pending.items p.scheduler p.kept in
-    let config = config_of p.config.partitions p.config.replicas g.S.Rows.points g.S.Rows.cold in
-    let next = with_sequencer x c.close.new.self.sequencing in
-    let refused = err_from_is_err_and c.from_residual.result c.from_residual.ensures.1 in
-    record {
-      did = subst (λ v. NodeDid {Reply = g.row.A-Reply.Denot} true c.from_residual.result (acting.close v.config v.state) v (running (config c.close.new.self.delay) next) [] []) c.self.view_is
-          (subst (λ d. NodeDid {Reply = g.row.A-Reply.Denot} true c.from_residual.result (acting.close (config p.sequencer.delay) x) (running (config p.sequencer.delay) x) (running (config d) next) [] []) (sym c.in_err-_epoch.ensures.delay)
-          (subst (λ r. NodeDid {Reply = g.row.A-Reply.Denot} true r (acting.close (config p.sequencer.delay) x) (running (config p.sequencer.delay) x) (running (config p.sequencer.delay) next) [] []) (sym (refused.1 ∙ ap Err refused.2))
-          (sequenced g.row.A-Reply.Denot (config p.sequencer.delay) x (left_again p.scheduler.scheduling p.scheduler.due) (not (can_close p.sequencer)) (Err c.in_err-_epoch.field-0.0) (sequencing.close p.sequencer.delay p.sequencer.sequencing) c.close.new.self.sequencing c.in_err-_epoch.ensures.did)));
-    }
+pub invariant_of-self : goal.invariant_of-self
+invariant_of-self g c = let p = c.self.inside in still_node p.layer c.close.new.self p.scheduler c.close.ensures.of c.self.invariant
 
 pub returns : goal.returns
 returns g c =
     let p = c.self.inside in
-    let x = state_of p.id p.member p.sequencer p.merge p.pending.items p.scheduler p.kept in
-    let config = config_of p.config.partitions p.config.replicas g.S.Rows.points g.S.Rows.cold in
-    let next = with_sequencer x c.close.new.self.sequencing in
-    record {
-      did = subst (λ v. NodeDid {Reply = g.row.A-Reply.Denot} true (Ok tt) (acting.close v.config v.state) v (running (config c.close.new.self.delay) next) [] []) c.self.view_is
-          (subst (λ d. NodeDid {Reply = g.row.A-Reply.Denot} true (Ok tt) (acting.close (config p.sequencer.delay) x) (running (config p.sequencer.delay) x) (running (config d) next) [] []) (sym c.in_ok-_epoch.ensures.delay)
-          (sequenced g.row.A-Reply.Denot (config p.sequencer.delay) x (left_again p.scheduler.scheduling p.scheduler.due) (not (can_close p.sequencer)) (Ok c.in_ok-_epoch._epoch) (sequencing.close p.sequencer.delay p.sequencer.sequencing) c.close.new.self.sequencing c.in_ok-_epoch.ensures.did));
-    }
+    let below = rest_of g.S.Rows.points g.S.Rows.cold p.pending.items p.scheduler p.kept in
+    record { did = subst (λ v. NodeDid {Reply = g.row.A-Reply.Denot} true c.close.result (acting.close v.config v.state) v (node_of c.close.new.self below) [] []) c.self.view_is (c.close.ensures.did below) }

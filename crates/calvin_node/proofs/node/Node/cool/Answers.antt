@@ -2,15 +2,17 @@ use Rattle.std.proofs.Common.{[], true, refl, sym, ap, subst, ◌∙◌}
 use Rattle.calvin_sched.specs.Progress.{left}
 use Rattle.calvin_sched.specs.Standing as standing
 use Rattle.calvin_acts.specs.Acting as acting
-use Rattle.calvin_acts.specs.Running.{NodeDid, config_of, state_of}
+use Rattle.calvin_acts.specs.Layers.{rest_of, state_of}
+use Rattle.calvin_acts.specs.Running.{NodeDid, config_of}
 use Rattle.calvin_acts.proofs.Settling.{running, left_again, scheduled}
 use Rattle.calvin_node.proofs.node.Node.cool.Goals as goal
 
 pub returns : goal.returns
 returns g c =
     let p = c.self.inside in
-    let x = state_of p.id p.member p.sequencer p.merge p.pending.items p.scheduler p.kept in
-    let config = config_of p.config.partitions p.config.replicas g.S.Rows.points g.S.Rows.cold p.sequencer.delay in
+    let below = rest_of g.S.Rows.points g.S.Rows.cold p.pending.items p.scheduler p.kept in
+    let x = state_of p.layer below in
+    let config = config_of p.layer.partitions p.layer.replicas g.S.Rows.points g.S.Rows.cold p.layer.delay in
     let s = c.cool.new.self.scheduling in
     record {
       did = subst (λ v. NodeDid {Reply = g.row.A-Reply.Denot} true c.cool.result (acting.cool_row v.config c.args.key.now v.state) v (running config (record x { scheduler = s; due = left s c.cool.new.self.due })) [] []) c.self.view_is

@@ -7,7 +7,8 @@ use Rattle.calvin_sched.specs.Steps as steps
 use Rattle.calvin_packets.specs.declared.packet.Address.TheVariants.{AtClient}
 use Rattle.calvin_packets.specs.declared.packet.Content.TheVariants.{Replies}
 use Rattle.calvin_acts.specs.NodeStates.{site_of}
-use Rattle.calvin_acts.specs.Running.{NodeFinished, config_of, state_of}
+use Rattle.calvin_acts.specs.Layers.{rest_of, state_of}
+use Rattle.calvin_acts.specs.Running.{NodeFinished, config_of}
 use Rattle.calvin_packets.proofs.PacketSizes.{packet_of}
 use Rattle.calvin_acts.proofs.Settling.{running, left_then, left_again, unchanged}
 use Rattle.calvin_acts.proofs.Beginning.{finished, on_ok, cause}
@@ -26,8 +27,9 @@ returns-then-is_err g c =
 pub returns-in_err-answer : goal.returns-in_err-answer
 returns-in_err-answer g c =
     let p = c.self.inside in
-    let x = state_of p.id p.member p.sequencer p.merge p.pending.items p.scheduler p.kept in
-    let config = config_of p.config.partitions p.config.replicas g.S.Rows.points g.S.Rows.cold p.sequencer.delay in
+    let below = rest_of g.S.Rows.points g.S.Rows.cold p.pending.items p.scheduler p.kept in
+    let x = state_of p.layer below in
+    let config = config_of p.layer.partitions p.layer.replicas g.S.Rows.points g.S.Rows.cold p.layer.delay in
     let reply = g.row.A-Reply.Denot in
     let s = c.finish.new.self.scheduling in
     let j = c.args.computed.now.job in
@@ -47,8 +49,9 @@ returns-in_err-answer g c =
 pub returns : goal.returns
 returns g c =
     let p = c.self.inside in
-    let x = state_of p.id p.member p.sequencer p.merge p.pending.items p.scheduler p.kept in
-    let config = config_of p.config.partitions p.config.replicas g.S.Rows.points g.S.Rows.cold p.sequencer.delay in
+    let below = rest_of g.S.Rows.points g.S.Rows.cold p.pending.items p.scheduler p.kept in
+    let x = state_of p.layer below in
+    let config = config_of p.layer.partitions p.layer.replicas g.S.Rows.points g.S.Rows.cold p.layer.delay in
     let reply = g.row.A-Reply.Denot in
     let s = c.finish.new.self.scheduling in
     let j = c.args.computed.now.job in
@@ -58,5 +61,5 @@ returns g c =
       did = subst (λ v. NodeFinished g.A.App.meaning j (Ok tt) v (running config (record x { scheduler = s; due = left s c.finish.new.self.due })) sent c.push_reserved.new.self.packets) c.self.view_is
           (subst (λ d. NodeFinished g.A.App.meaning j (Ok tt) (running config x) (running config (record x { scheduler = s; due = d })) sent c.push_reserved.new.self.packets)
           (sym (left_then p.scheduler.scheduling s p.scheduler.due c.finish.new.self.due c.in_ok-answer.ensures.due c.due_is_undone.ensures))
-          (finished g.A.App.meaning config x sent j did.0 s did.1 c.in_ok-answer.answer did.2 c.push_reserved.new.self.packets (c.push_reserved.ensures.packets ∙ ap (λ ps. ps ++ record { from = p.id; to = AtClient j.txn.id.client; content = Replies j.place j.txn.id j.txn.attempt c.in_ok-answer.answer } ∷ []) c.reserve.ensures.packets)));
+          (finished g.A.App.meaning config x sent j did.0 s did.1 c.in_ok-answer.answer did.2 c.push_reserved.new.self.packets (c.push_reserved.ensures.packets ∙ (λ i. c.reserve.ensures.packets i ++ record { from = c.id.ensures i; to = AtClient j.txn.id.client; content = Replies j.place j.txn.id j.txn.attempt c.in_ok-answer.answer } ∷ []))));
     }

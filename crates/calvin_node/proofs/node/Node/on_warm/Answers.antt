@@ -4,15 +4,17 @@ use Rattle.calvin_sched.specs.Progress.{left}
 use Rattle.calvin_sched.specs.Standing as standing
 use Rattle.calvin_packets.specs.declared.packet.Content.TheVariants.{Warm}
 use Rattle.calvin_acts.specs.Handling as handling
-use Rattle.calvin_acts.specs.Running.{NodeDid, config_of, state_of}
+use Rattle.calvin_acts.specs.Layers.{rest_of, state_of}
+use Rattle.calvin_acts.specs.Running.{NodeDid, config_of}
 use Rattle.calvin_acts.proofs.Settling.{running, left_again, scheduled}
 use Rattle.calvin_node.proofs.node.Node.on_warm.Goals as goal
 
 pub returns : goal.returns
 returns g c =
     let p = c.self.inside in
-    let x = state_of p.id p.member p.sequencer p.merge p.pending.items p.scheduler p.kept in
-    let config = config_of p.config.partitions p.config.replicas g.S.Rows.points g.S.Rows.cold p.sequencer.delay in
+    let below = rest_of g.S.Rows.points g.S.Rows.cold p.pending.items p.scheduler p.kept in
+    let x = state_of p.layer below in
+    let config = config_of p.layer.partitions p.layer.replicas g.S.Rows.points g.S.Rows.cold p.layer.delay in
     let reply = g.row.A-Reply.Denot in
     let s = c.warm.new.self.scheduling in
     record {

@@ -11,7 +11,8 @@ use Rattle.calvin_packets.specs.declared.packet.Address.TheVariants.{AtClient}
 use Rattle.calvin_packets.specs.declared.packet.Content.TheVariants.{Replies}
 use Rattle.calvin_acts.specs.Acting as acting
 use Rattle.calvin_acts.specs.NodeStates.{site_of}
-use Rattle.calvin_acts.specs.Running.{NodeDid, config_of, state_of}
+use Rattle.calvin_acts.specs.Layers.{rest_of, state_of}
+use Rattle.calvin_acts.specs.Running.{NodeDid, config_of}
 use Rattle.calvin_acts.proofs.Settling.{running, left_then, left_again, unchanged}
 use Rattle.calvin_acts.proofs.Beginning.{on_ok}
 use Rattle.calvin_acts.proofs.Ran.{not_run, ran}
@@ -23,8 +24,9 @@ push_reserved-requires g c = (packet_of (lone g.row.A-Args.mir) (lone g.row.A-Ro
 pub returns-in_err-name : goal.returns-in_err-name
 returns-in_err-name g c =
     let p = c.self.inside in
-    let x = state_of p.id p.member p.sequencer p.merge p.pending.items p.scheduler p.kept in
-    let config = config_of p.config.partitions p.config.replicas g.S.Rows.points g.S.Rows.cold p.sequencer.delay in
+    let below = rest_of g.S.Rows.points g.S.Rows.cold p.pending.items p.scheduler p.kept in
+    let x = state_of p.layer below in
+    let config = config_of p.layer.partitions p.layer.replicas g.S.Rows.points g.S.Rows.cold p.layer.delay in
     let m = g.A.App.meaning in
     let sent = c.args.outbox.now.packets in
     let s = c.run.new.self.scheduling in
@@ -43,8 +45,9 @@ returns-in_err-name g c =
 pub returns : goal.returns
 returns g c =
     let p = c.self.inside in
-    let x = state_of p.id p.member p.sequencer p.merge p.pending.items p.scheduler p.kept in
-    let config = config_of p.config.partitions p.config.replicas g.S.Rows.points g.S.Rows.cold p.sequencer.delay in
+    let below = rest_of g.S.Rows.points g.S.Rows.cold p.pending.items p.scheduler p.kept in
+    let x = state_of p.layer below in
+    let config = config_of p.layer.partitions p.layer.replicas g.S.Rows.points g.S.Rows.cold p.layer.delay in
     let m = g.A.App.meaning in
     let sent = c.args.outbox.now.packets in
     let s = c.run.new.self.scheduling in
@@ -55,5 +58,5 @@ returns g c =
           (subst (λ d. NodeDid true (Ok tt) (acting.finish m config c.args.place x) (running config x) (running config (record x { scheduler = s; due = d })) sent c.push_reserved.new.self.packets)
           (sym (left_then p.scheduler.scheduling s p.scheduler.due c.run.new.self.due c.in_ok-name.ensures.due c.due_is_undone.ensures))
           (ran m config x c.args.place sent told.0 told.1 s told.4 c.in_ok-name.name told.2 c.run.new.answer told.3 c.push_reserved.new.self.packets
-          (c.push_reserved.ensures.packets ∙ ap (λ ps. ps ++ record { from = p.id; to = AtClient c.in_ok-name.name.0.client; content = Replies c.args.place c.in_ok-name.name.0 c.in_ok-name.name.1 c.run.new.answer } ∷ []) c.reserve.ensures.packets)));
+          (c.push_reserved.ensures.packets ∙ (λ i. c.reserve.ensures.packets i ++ record { from = c.id.ensures i; to = AtClient c.in_ok-name.name.0.client; content = Replies c.args.place c.in_ok-name.name.0 c.in_ok-name.name.1 c.run.new.answer } ∷ []))));
     }

@@ -7,15 +7,17 @@ use Rattle.calvin_sched.specs.Keeping.{takes_effect}
 use Rattle.calvin_sched.specs.Progress.{left}
 use Rattle.calvin_sched.specs.Standing.{take_rows}
 use Rattle.calvin_acts.specs.Acting as acting
-use Rattle.calvin_acts.specs.Running.{NodeDid, config_of, state_of, kept_epochs}
+use Rattle.calvin_acts.specs.Layers.{rest_of, state_of}
+use Rattle.calvin_acts.specs.Running.{NodeDid, config_of, kept_epochs}
 use Rattle.calvin_acts.proofs.Settling.{running, left_again, not_taken, taken}
 use Rattle.calvin_node.proofs.node.Node.snapshot.Goals as goal
 
 pub returns-in_err-can_take : goal.returns-in_err-can_take
 returns-in_err-can_take g c =
     let p = c.self.inside in
-    let x = state_of p.id p.member p.sequencer p.merge p.pending.items p.scheduler p.kept in
-    let config = config_of p.config.partitions p.config.replicas g.S.Rows.points g.S.Rows.cold p.sequencer.delay in
+    let below = rest_of g.S.Rows.points g.S.Rows.cold p.pending.items p.scheduler p.kept in
+    let x = state_of p.layer below in
+    let config = config_of p.layer.partitions p.layer.replicas g.S.Rows.points g.S.Rows.cold p.layer.delay in
     let next : c.args.epoch + 1 ≡ suc c.args.epoch = omega arith in
     let same : take_rows p.scheduler.merged p.scheduler.due (c.args.epoch + 1) p.scheduler.scheduling ≡ take_rows x.merged_epochs x.due (suc c.args.epoch) x.scheduler = λ i. take_rows (c.self.invariant.merged i) ((sym c.due_is_undone.ensures) i) (next i) p.scheduler.scheduling in
     let refused = err_from_is_err_and c.from_residual.result c.from_residual.ensures.1 in
@@ -28,8 +30,9 @@ returns-in_err-can_take g c =
 pub returns-in_err-rows : goal.returns-in_err-rows
 returns-in_err-rows g c =
     let p = c.self.inside in
-    let x = state_of p.id p.member p.sequencer p.merge p.pending.items p.scheduler p.kept in
-    let config = config_of p.config.partitions p.config.replicas g.S.Rows.points g.S.Rows.cold p.sequencer.delay in
+    let below = rest_of g.S.Rows.points g.S.Rows.cold p.pending.items p.scheduler p.kept in
+    let x = state_of p.layer below in
+    let config = config_of p.layer.partitions p.layer.replicas g.S.Rows.points g.S.Rows.cold p.layer.delay in
     let next : c.args.epoch + 1 ≡ suc c.args.epoch = omega arith in
     let s = c.take.new.self.scheduling in
     let same : take_rows p.scheduler.merged p.scheduler.due (c.args.epoch + 1) p.scheduler.scheduling ≡ take_rows x.merged_epochs x.due (suc c.args.epoch) x.scheduler = λ i. take_rows (c.self.invariant.merged i) ((sym c.due_is_undone.ensures) i) (next i) p.scheduler.scheduling in
@@ -48,8 +51,9 @@ returns-in_err-rows g c =
 pub returns : goal.returns
 returns g c =
     let p = c.self.inside in
-    let x = state_of p.id p.member p.sequencer p.merge p.pending.items p.scheduler p.kept in
-    let config = config_of p.config.partitions p.config.replicas g.S.Rows.points g.S.Rows.cold p.sequencer.delay in
+    let below = rest_of g.S.Rows.points g.S.Rows.cold p.pending.items p.scheduler p.kept in
+    let x = state_of p.layer below in
+    let config = config_of p.layer.partitions p.layer.replicas g.S.Rows.points g.S.Rows.cold p.layer.delay in
     let next : c.args.epoch + 1 ≡ suc c.args.epoch = omega arith in
     let s = c.take.new.self.scheduling in
     let same : take_rows p.scheduler.merged p.scheduler.due (c.args.epoch + 1) p.scheduler.scheduling ≡ take_rows x.merged_epochs x.due (suc c.args.epoch) x.scheduler = λ i. take_rows (c.self.invariant.merged i) ((sym c.due_is_undone.ensures) i) (next i) p.scheduler.scheduling in

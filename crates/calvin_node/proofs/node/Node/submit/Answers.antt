@@ -1,21 +1,15 @@
-use Rattle.std.proofs.Common.{[], true, not, sym, subst}
-use Rattle.calvin_order.specs.Keeping.{can_submit}
-use Rattle.calvin_order.specs.Sequencing as sequencing
+use Rattle.std.proofs.Common.{[], true, subst}
 use Rattle.calvin_acts.specs.Acting as acting
-use Rattle.calvin_acts.specs.NodeStates.{with_sequencer}
-use Rattle.calvin_acts.specs.Running.{NodeDid, config_of, state_of}
-use Rattle.calvin_acts.proofs.Settling.{running, left_again, sequenced, ended_is}
+use Rattle.calvin_acts.specs.Layers.{rest_of, node_of}
+use Rattle.calvin_acts.specs.Running.{NodeDid}
+use Rattle.calvin_acts.proofs.Settling.{still_node}
 use Rattle.calvin_node.proofs.node.Node.submit.Goals as goal
+
+pub invariant_of-self : goal.invariant_of-self
+invariant_of-self g c = let p = c.self.inside in still_node p.layer c.submit.new.self p.scheduler c.submit.ensures.of c.self.invariant
 
 pub returns : goal.returns
 returns g c =
     let p = c.self.inside in
-    let x = state_of p.id p.member p.sequencer p.merge p.pending.items p.scheduler p.kept in
-    let config = config_of p.config.partitions p.config.replicas g.S.Rows.points g.S.Rows.cold in
-    let next = with_sequencer x c.submit.new.self.sequencing in
-    record {
-      did = subst (λ v. NodeDid {Reply = g.row.A-Reply.Denot} true c.submit.result (acting.submit c.args.txn v.state) v (running (config c.submit.new.self.delay) next) [] []) c.self.view_is
-          (subst (λ d. NodeDid {Reply = g.row.A-Reply.Denot} true c.submit.result (acting.submit c.args.txn x) (running (config p.sequencer.delay) x) (running (config d) next) [] []) (sym c.submit.ensures.delay)
-          (subst (λ r. NodeDid {Reply = g.row.A-Reply.Denot} true r (acting.submit c.args.txn x) (running (config p.sequencer.delay) x) (running (config p.sequencer.delay) next) [] []) (ended_is c.submit.result)
-          (sequenced g.row.A-Reply.Denot (config p.sequencer.delay) x (left_again p.scheduler.scheduling p.scheduler.due) (not (can_submit p.sequencer)) c.submit.result (sequencing.submit c.args.txn p.sequencer.sequencing) c.submit.new.self.sequencing c.submit.ensures.did)));
-    }
+    let below = rest_of g.S.Rows.points g.S.Rows.cold p.pending.items p.scheduler p.kept in
+    record { did = subst (λ v. NodeDid {Reply = g.row.A-Reply.Denot} true c.submit.result (acting.submit c.args.txn v.state) v (node_of c.submit.new.self below) [] []) c.self.view_is (c.submit.ensures.did below) }

@@ -1,0 +1,15 @@
+use Rattle.std.proofs.Common.{true, subst}
+use Rattle.calvin_acts.specs.Acting as acting
+use Rattle.calvin_acts.specs.Layers.{rest_of, node_of}
+use Rattle.calvin_acts.specs.Running.{NodeDid}
+use Rattle.calvin_acts.proofs.Settling.{still_node}
+use Rattle.calvin_node.proofs.node.Node.submit_cold.Goals as goal
+
+pub invariant_of-self : goal.invariant_of-self
+invariant_of-self g c = let p = c.self.inside in still_node p.layer c.submit_cold.new.self p.scheduler c.submit_cold.ensures.of c.self.invariant
+
+pub returns : goal.returns
+returns g c =
+    let p = c.self.inside in
+    let below = rest_of g.S.Rows.points g.S.Rows.cold p.pending.items p.scheduler p.kept in
+    record { did = subst (λ v. NodeDid true c.submit_cold.result (acting.submit_cold v.config c.args.txn v.state) v (node_of c.submit_cold.new.self below) c.args.outbox.now.packets c.submit_cold.new.outbox.packets) c.self.view_is (c.submit_cold.ensures.did below) }
