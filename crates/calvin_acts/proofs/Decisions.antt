@@ -23,9 +23,9 @@ pub now_held : {Args : Type 0} (m ready held : Merging Args) (slot : Slot) (batc
     → (held.held ≡ insert m.held slot batch) × (held.next ≡ m.next) × (held.partitions ≡ m.partitions)
 now_held m ready held slot batch made is free =
     let whole : held ≡ record m { held = insert m.held slot batch; room = ready.room - 1 } =
-        is
-        ∙ (λ i. with_batch slot batch (made i))
-        ∙ (λ i. cond (free i) (record m { room = ready.room }) (record m { held = insert m.held slot batch; room = ready.room - 1 })) in
+    is
+    ∙ (λ i. with_batch slot batch (made i))
+    ∙ (λ i. cond (free i) (record m { room = ready.room }) (record m { held = insert m.held slot batch; room = ready.room - 1 })) in
     (ap (λ k. k.held) whole, ap (λ k. k.next) whole, ap (λ k. k.partitions) whole)
 
 module _ {Args Row : Type 0} (Reply : Type 0) (c : Config) (x : NodeState Args Row) (me : ℕ) (from : ℕ) (slot : Slot) (ballot : Ballot) (batch : Batch Args)

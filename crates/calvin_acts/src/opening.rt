@@ -1,5 +1,5 @@
 //! What a node is opened with: the scheduler that goes on from a snapshot, and the epoch after it.
-ghost use Rattle.std.specs.Prelude.{◌≡◌, ◌^◌, [], true, IfOk, IfErr};
+ghost use Rattle.std.specs.Prelude.{◌≡◌, ◌+◌, ◌^◌, ◌≤◌, [], true, IfOk, IfErr, MatchBool};
 ghost use Rattle.std.specs.Option.{unwrap_or};
 ghost use Rattle.calvin_types.specs.Participants.{site};
 ghost use Rattle.calvin_order.specs.Merged.{end_of};
@@ -21,6 +21,16 @@ pub fn first_epoch<Row>(kept: &Option<(u64, Snapshot<Row>)>) -> Option<u64>
     match kept {
         Some((epoch, _)) => epoch.checked_add(1),
         None => Some(0),
+    }
+}
+
+/// Whether the last snapshot is of an epoch or a later one.
+pub fn has_kept<Row>(kept: &Option<(u64, Snapshot<Row>)>, epoch: u64) -> bool
+    ensures { MatchBool result (epoch + 1 ≤ kept_epochs kept.now) (kept_epochs kept.now ≤ epoch) }
+{
+    match kept {
+        Some((last, _)) => epoch <= *last,
+        None => false,
     }
 }
 

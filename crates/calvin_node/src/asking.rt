@@ -56,6 +56,11 @@ impl<A: App, L: Locks + Drop, S: Rows<A::Row> + Drop> Node<A, L, S> {
         if awaited.len() == 0 {
             return Err(Fault::NotAwaited);
         }
-        outbox.post_to_each(self.layer.id(), replica, &Content::AskReads(place), &awaited)
+        outbox.post_to_each(
+            self.layer.id(),
+            replica,
+            &Content::AskReads(place),
+            &awaited,
+        )
     }
 }

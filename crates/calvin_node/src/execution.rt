@@ -1,10 +1,6 @@
 //! How a node runs what is merged: each request is locked, begins, is run and finished.
-ghost use Rattle.std.specs.Prelude.{◌≡◌, ◌≤◌, ◌++◌, []};
-ghost use Rattle.std.specs.Option.{ForSome};
-ghost use Rattle.calvin_packets.specs.declared.packet.Content.TheVariants.{Reads};
-ghost use Rattle.calvin_packets.specs.Packets.{to_each};
+ghost use Rattle.std.specs.Prelude.{◌≡◌, []};
 ghost use Rattle.calvin_sched.specs.Keeping.{IsFirstReadyHere};
-ghost use Rattle.calvin_sched.specs.Scheduling.{turn_at, other_active};
 ghost use Rattle.calvin_sched.specs.Standing.{stands_at};
 ghost use Rattle.calvin_sched.specs.Steps as steps;
 ghost use Rattle.calvin_acts.specs.Acting as acting;
@@ -14,6 +10,7 @@ ghost use Rattle.calvin_acts.specs.Running.{NodeDid, NodeFinished};
 ghost use Rattle.calvin_acts.specs.declared.act.Act.TheVariants as act;
 
 use crate::node::Node;
+use calvin_acts::post_served;
 use calvin_app::{App, Computed, Job};
 use calvin_lock::Locks;
 use calvin_packets::{Address, Content, Outbox, Packet};
@@ -51,21 +48,9 @@ impl<A: App, L: Locks + Drop, S: Rows<A::Row> + Drop> Node<A, L, S> {
         }
         outbox.reserve(MOST_KEYS)?;
         self.scheduler.begin_in_place(place)?;
-        self.post_served(place, outbox);
+        let me = self.layer.id();
+        post_served(&self.scheduler, self.layer.config(), me, place, outbox);
         Ok(())
-    }
-
-    /// The rows that the request at a place read here are sent to the other partitions of the replica that run it, if it is
-    /// admitted. There is room.
-    fn post_served(&self, place: Place, outbox: &mut Outbox<A>)
-        requires { MOST_KEYS ≤ outbox.old.room }
-        ensures { ForSome (turn_at self.now.state.scheduler place) (λ x. let here = site_of self.now.config.partitions self.now.state in
-            outbox.new.packets ≡ outbox.old.packets ++ to_each self.now.state.id self.now.state.id.replica (Reads place x.served) (other_active here x.request)) }
-    {
-        if let Some(turn) = self.scheduler.turn(place) {
-            let others = turn.others(self.layer.config(), self.layer.id().partition);
-            outbox.post_reads(self.layer.id(), place, turn.served(), &others);
-        }
     }
 
     /// What is to be run at a place. Refused with `NotReady` where the request has not begun or is done, else with

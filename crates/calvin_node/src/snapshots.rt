@@ -1,9 +1,10 @@
 //! Snapshots of a node's rows, points of consistency, and cold rows.
-ghost use Rattle.std.specs.Prelude.{◌+◌, ◌≤◌, [], false, true, MatchBool};
+ghost use Rattle.std.specs.Prelude.{[], false, true};
 ghost use Rattle.calvin_acts.specs.Acting as acting;
 ghost use Rattle.calvin_acts.specs.Running.{NodeDid};
 
 use crate::node::Node;
+use calvin_acts::has_kept;
 use calvin_app::App;
 use calvin_lock::Locks;
 use calvin_store::Rows;
@@ -30,16 +31,6 @@ impl<A: App, L: Locks + Drop, S: Rows<A::Row> + Drop> Node<A, L, S> {
         self.scheduler.cool(key)
     }
 
-    /// Whether the last snapshot is of an epoch or a later one.
-    fn has_kept(&self, epoch: u64) -> bool
-        ensures { MatchBool result (epoch + 1 ≤ self.now.state.kept_epochs) (self.now.state.kept_epochs ≤ epoch) }
-    {
-        match &self.kept {
-            Some((kept, _)) => epoch <= *kept,
-            None => false,
-        }
-    }
-
     /// The rows at the end of an epoch become the durable record's snapshot (section 5: a checkpoint): those of the point that
     /// is open there, once the epochs up to it are merged and done here; else those of now, where the node stands there. A
     /// point at that end or before it is closed. Refused with `NotAtEnd` where there are neither, with `Older` where the
@@ -49,7 +40,7 @@ impl<A: App, L: Locks + Drop, S: Rows<A::Row> + Drop> Node<A, L, S> {
     {
         self.scheduler.due_is_undone();
         self.scheduler.can_take(epoch)?;
-        if self.has_kept(epoch) {
+        if has_kept(&self.kept, epoch) {
             return Err(Fault::Older);
         }
         let rows = self.scheduler.take(epoch)?;

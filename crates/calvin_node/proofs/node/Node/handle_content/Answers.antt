@@ -1,6 +1,8 @@
-use Rattle.std.proofs.Common.{true, false, sym, subst}
+use Rattle.std.proofs.Common.{true, false, Err, refl, sym, subst}
 use Rattle.std.specs.FinMap as map
+use Rattle.calvin_types.specs.declared.fault.Fault.TheVariants.{NotMine}
 use Rattle.calvin_sched.specs.Steps as steps
+use Rattle.calvin_packets.specs.declared.packet.Content.TheVariants.{Warm}
 use Rattle.calvin_acts.specs.Growing.{content_grows}
 use Rattle.calvin_acts.specs.Handling as handling
 use Rattle.calvin_acts.specs.NodeStates.{site_of}
@@ -63,3 +65,17 @@ returns-in-AskReads g c =
     let x = c.args.self.now in
     let sent = c.args.outbox.now.packets in
     record { did = subst (λ k. NodeDid (content_grows x.config k) c.on_ask_reads.result (handling.handle_content x.config c.args.from k x.state) x c.args.self.now sent c.on_ask_reads.new.outbox.packets) (sym c.in-AskReads.is) c.on_ask_reads.ensures.did }
+
+pub returns-in-Warm : goal.returns-in-Warm
+returns-in-Warm g c =
+    let x = c.args.self.now in
+    let reply = g.row.A-Reply.Denot in
+    let sent = c.args.outbox.now.packets in
+    let did = quiet x.config.cold c.on_warm.result (handling.handle_content {Reply = reply} x.config c.args.from (Warm c.in-Warm.sets) x.state) x c.on_warm.new.self sent c.on_warm.ensures.did in
+    record { did = subst (λ k. NodeDid (content_grows x.config k) c.on_warm.result (handling.handle_content x.config c.args.from k x.state) x c.on_warm.new.self sent sent) (sym c.in-Warm.is) did }
+
+pub returns-in-Replies : goal.returns-in-Replies
+returns-in-Replies g c =
+    let x = c.args.self.now in
+    let sent = c.args.outbox.now.packets in
+    record { did = subst (λ k. NodeDid (content_grows x.config k) (Err NotMine) (handling.handle_content x.config c.args.from k x.state) x x sent sent) (sym c.in-Replies.is) (refl, refl, refl) }

@@ -37,7 +37,7 @@ returns-in_err-rows g c =
     let s = c.take.new.self.scheduling in
     let same : take_rows p.scheduler.merged p.scheduler.due (c.args.epoch + 1) p.scheduler.scheduling ≡ take_rows x.merged_epochs x.due (suc c.args.epoch) x.scheduler = λ i. take_rows (c.self.invariant.merged i) ((sym c.due_is_undone.ensures) i) (next i) p.scheduler.scheduling in
     let takes = sym (ap takes_effect same) ∙ c.in_ok-can_take.ensures.ok in
-    let newer = le-leb (kept_epochs p.kept) c.args.epoch (subst (λ v. v.state.kept_epochs ≤ c.args.epoch) (sym c.self.view_is) c.if-has_kept.ensures) in
+    let newer = le-leb (kept_epochs p.kept) c.args.epoch c.if-has_kept.ensures in
     let refused = err_from_is_err_and c.from_residual-in_err-rows.result c.from_residual-in_err-rows.ensures.1 in
     record {
       did = subst (λ v. NodeDid {Reply = g.row.A-Reply.Denot} true c.from_residual-in_err-rows.result (acting.snapshot c.args.epoch v.state) v (running config (record x { scheduler = s; due = left s c.take.new.self.due })) [] []) c.self.view_is
@@ -57,7 +57,7 @@ returns g c =
     let next : c.args.epoch + 1 ≡ suc c.args.epoch = omega arith in
     let s = c.take.new.self.scheduling in
     let same : take_rows p.scheduler.merged p.scheduler.due (c.args.epoch + 1) p.scheduler.scheduling ≡ take_rows x.merged_epochs x.due (suc c.args.epoch) x.scheduler = λ i. take_rows (c.self.invariant.merged i) ((sym c.due_is_undone.ensures) i) (next i) p.scheduler.scheduling in
-    let newer = le-leb (kept_epochs p.kept) c.args.epoch (subst (λ v. v.state.kept_epochs ≤ c.args.epoch) (sym c.self.view_is) c.if-has_kept.ensures) in
+    let newer = le-leb (kept_epochs p.kept) c.args.epoch c.if-has_kept.ensures in
     let rows = c.in_ok-rows.rows in
     record {
       did = subst (λ v. NodeDid {Reply = g.row.A-Reply.Denot} true (Ok tt) (acting.snapshot c.args.epoch v.state) v (running config (record x { scheduler = s; due = left s c.take.new.self.due; kept_epochs = suc c.args.epoch; kept_rows = rows })) [] []) c.self.view_is

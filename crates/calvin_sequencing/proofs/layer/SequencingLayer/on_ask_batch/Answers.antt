@@ -18,14 +18,14 @@ push-requires g c = packet_of (lone g.row.A-Args.mir) (lone g.row.A-Row.mir) (lo
 pub returns : goal.returns
 returns g c = record {
   did = λ rest.
-    let p = c.self.inside in
-    let x = state_of (layer_of p.config.partitions p.config.replicas p.id p.member p.sequencer p.merge) rest in
-    let config = config_of p.config.partitions p.config.replicas rest.points rest.cold p.sequencer.delay in
-    let sent = c.args.outbox.now.packets in
-    let all = c.push.new.self.packets in
-    let packets = record { from = p.id; to = AtNode c.args.from; content = Decided c.args.slot c.in_ok-batch.batch } ∷ [] in
-    let there : get p.merge.held c.args.slot ≡ Some c.in_ok-batch.batch = sym c.in-Some.ensures ∙ (λ i. Some (sym c.in_ok-batch.ensures.ok i)) in
-    subst (λ v. NodeDid true c.push.result (handling.on_ask_batch c.args.from c.args.slot (node_of v rest).state (get (node_of v rest).state.held c.args.slot)) (node_of v rest) (node_of v rest) sent all) c.self.view_is
+      let p = c.self.inside in
+      let x = state_of (layer_of p.config.partitions p.config.replicas p.id p.member p.sequencer p.merge) rest in
+      let config = config_of p.config.partitions p.config.replicas rest.points rest.cold p.sequencer.delay in
+      let sent = c.args.outbox.now.packets in
+      let all = c.push.new.self.packets in
+      let packets = record { from = p.id; to = AtNode c.args.from; content = Decided c.args.slot c.in_ok-batch.batch } ∷ [] in
+      let there : get p.merge.held c.args.slot ≡ Some c.in_ok-batch.batch = sym c.in-Some.ensures ∙ (λ i. Some (sym c.in_ok-batch.ensures.ok i)) in
+      subst (λ v. NodeDid true c.push.result (handling.on_ask_batch c.args.from c.args.slot (node_of v rest).state (get (node_of v rest).state.held c.args.slot)) (node_of v rest) (node_of v rest) sent all) c.self.view_is
       (subst (λ o. NodeDid true c.push.result (handling.on_ask_batch c.args.from c.args.slot x o) (running config x) (running config x) sent all) (sym there)
       (sends g.row.A-Reply.Denot config x (left_again rest.scheduler.scheduling rest.scheduler.due) sent c.push.result packets all c.push.ensures.ok c.push.ensures.err c.push.ensures.only));
 }

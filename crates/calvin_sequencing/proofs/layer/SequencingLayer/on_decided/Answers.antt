@@ -26,4 +26,4 @@ returns-clause-did g c rest =
     let new = node_of (layer_of p.config.partitions p.config.replicas p.id p.member c.keep.new.sequencer c.keep.new.merge) rest in
     let whole : new ≡ running (config p.sequencer.delay) (settled (holding x slot batch)) = λ i. running (config ((c.keep.ensures.delay ∙ c.make_room.ensures.delay) i)) (record x { sequencer = told i; held = (kept.0 ∙ ap (λ b. insert p.merge.held slot b) copied) i; merged_epochs = kept.1 i; due = (sym is) i }) in
     subst (λ v. NodeDid {Reply = g.row.A-Reply.Denot} true (Ok tt) (handling.on_decided slot batch (node_of v rest).state (get (node_of v rest).state.held slot)) (node_of v rest) new [] []) c.self.view_is
-      (subst (λ o. NodeDid {Reply = g.row.A-Reply.Denot} true (Ok tt) (handling.on_decided slot batch x o) (running (config p.sequencer.delay) x) new [] []) (sym (none_there (get p.merge.held slot) free)) (whole, refl))
+    (subst (λ o. NodeDid {Reply = g.row.A-Reply.Denot} true (Ok tt) (handling.on_decided slot batch x o) (running (config p.sequencer.delay) x) new [] []) (sym (none_there (get p.merge.held slot) free)) (whole, refl))

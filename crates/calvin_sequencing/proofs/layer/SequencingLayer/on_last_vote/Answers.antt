@@ -35,16 +35,16 @@ returns-in_err-_given-clause-did g c rest =
     let unchanged = not_counted reply config x p.member.me c.args.from c.args.slot c.args.ballot batch is_new is_last sent e after all (subst (λ n. MemberSent true (Err e) deed p.config.replicas p.config.partitions p.id (record { size = n; me = p.member.me; replica = p.member.replica }) after sent all) c.self.invariant.group_size did) in
     let room = c.make_room.new in
     subst (λ v. NodeDid {Reply = reply} true c.from_residual-in_err-_given.result (handling.by_synod (node_of v rest).config (node_of v rest).state (cases.accepted v.replicas c.args.from v.synod c.args.slot c.args.ballot batch)) (node_of v rest)
-      (node_of (layer_of p.config.partitions p.config.replicas p.id after room.sequencer room.merge) rest) sent all) c.self.view_is
-      (subst (λ r. NodeDid {Reply = reply} true r (handling.by_synod config x deed) (running config x) (node_of (layer_of p.config.partitions p.config.replicas p.id after room.sequencer room.merge) rest) sent all) (sym (failed.1 ∙ ap Err failed.2))
-      (subst (λ v. NodeDid {Reply = reply} true (Err e) (handling.by_synod config x deed) (running config x) v sent all) (λ i. running (config_of p.config.partitions p.config.replicas rest.points rest.cold ((sym c.make_room.ensures.delay) i)) (record x {
-          synod = ((sym unchanged.1) i).replica;
-          sequencer = (sym c.make_room.ensures.sequencing) i;
-          held = ((sym c.make_room.ensures.merge) i).held;
-          merged_epochs = ((sym c.make_room.ensures.merge) i).next;
-        }))
-      (subst (λ ps. NodeDid {Reply = reply} true (Err e) (handling.by_synod config x deed) (running config x) (running config x) sent ps) (sym unchanged.2)
-      (wanting reply config x p.member.me c.args.from c.args.slot c.args.ballot batch is_new is_last sent e unchanged.0))))
+    (node_of (layer_of p.config.partitions p.config.replicas p.id after room.sequencer room.merge) rest) sent all) c.self.view_is
+    (subst (λ r. NodeDid {Reply = reply} true r (handling.by_synod config x deed) (running config x) (node_of (layer_of p.config.partitions p.config.replicas p.id after room.sequencer room.merge) rest) sent all) (sym (failed.1 ∙ ap Err failed.2))
+    (subst (λ v. NodeDid {Reply = reply} true (Err e) (handling.by_synod config x deed) (running config x) v sent all) (λ i. running (config_of p.config.partitions p.config.replicas rest.points rest.cold ((sym c.make_room.ensures.delay) i)) (record x {
+      synod = ((sym unchanged.1) i).replica;
+      sequencer = (sym c.make_room.ensures.sequencing) i;
+      held = ((sym c.make_room.ensures.merge) i).held;
+      merged_epochs = ((sym c.make_room.ensures.merge) i).next;
+    }))
+    (subst (λ ps. NodeDid {Reply = reply} true (Err e) (handling.by_synod config x deed) (running config x) (running config x) sent ps) (sym unchanged.2)
+    (wanting reply config x p.member.me c.args.from c.args.slot c.args.ballot batch is_new is_last sent e unchanged.0))))
 
 pub returns-clause-did : goal.returns-clause-did
 returns-clause-did g c rest =
@@ -64,7 +64,7 @@ returns-clause-did g c rest =
     let free : contains_key p.merge.held slot ≡ false = ap is_some (subst (λ v. get v.held slot ≡ None) (sym c.self.view_is) c.requires.free) in
     let gave = c.in_ok-_given._given in
     let did = subst (λ vote. MemberSent (message_grows vote) (Ok gave) (cases.handle p.config.replicas c.args.from vote p.member.replica) p.config.replicas p.config.partitions p.id p.member after sent all) c.requires.vote
-        (subst (λ n. MemberSent (message_grows c.args.vote.now) (Ok gave) (cases.handle n c.args.from c.args.vote.now p.member.replica) p.config.replicas p.config.partitions p.id p.member after sent all) c.self.invariant.group_size c.in_ok-_given.ensures.did) in
+    (subst (λ n. MemberSent (message_grows c.args.vote.now) (Ok gave) (cases.handle n c.args.from c.args.vote.now p.member.replica) p.config.replicas p.config.partitions p.id p.member after sent all) c.self.invariant.group_size c.in_ok-_given.ensures.did) in
     let sized = subst (λ n. MemberSent true (Ok gave) deed p.config.replicas p.config.partitions p.id (record { size = n; me = p.member.me; replica = p.member.replica }) after sent all) c.self.invariant.group_size did in
     let copied = c.in_ok-decided.ensures.ok in
     let seq = c.make_room.ensures.sequencing in
@@ -73,5 +73,5 @@ returns-clause-did g c rest =
     let new = state_of (layer_of p.config.partitions p.config.replicas p.id after c.keep.new.sequencer c.keep.new.merge) rest in
     let whole : new ≡ settled (holding (with_synod x after.replica) slot batch) = λ i. record x { synod = after.replica; sequencer = told i; held = (kept.0 ∙ ap (λ b. insert p.merge.held slot b) copied) i; merged_epochs = kept.1 i; due = (sym is) i } in
     subst (λ v. NodeDid {Reply = reply} true (Ok tt) (handling.by_synod (node_of v rest).config (node_of v rest).state (cases.accepted v.replicas c.args.from v.synod slot c.args.ballot batch)) (node_of v rest) (running (config c.keep.new.sequencer.delay) new) sent all) c.self.view_is
-      (subst (λ d. NodeDid {Reply = reply} true (Ok tt) (handling.by_synod (config p.sequencer.delay) x deed) (running (config p.sequencer.delay) x) (running (config d) new) sent all) (sym (c.keep.ensures.delay ∙ c.make_room.ensures.delay))
-      (decided reply (config p.sequencer.delay) x p.member.me c.args.from slot c.args.ballot batch is_new is_last sent gave after all sized new whole))
+    (subst (λ d. NodeDid {Reply = reply} true (Ok tt) (handling.by_synod (config p.sequencer.delay) x deed) (running (config p.sequencer.delay) x) (running (config d) new) sent all) (sym (c.keep.ensures.delay ∙ c.make_room.ensures.delay))
+    (decided reply (config p.sequencer.delay) x p.member.me c.args.from slot c.args.ballot batch is_new is_last sent gave after all sized new whole))

@@ -32,8 +32,8 @@ returns-in_err-_none-clause-did g c rest =
     let failed = err_from_is_err_and c.from_residual.result c.from_residual.ensures.1 in
     let did = subst (λ n. MemberSent grows (Err e) (cases.handle n c.args.from c.args.message.now p.member.replica) p.config.replicas p.config.partitions p.id p.member after sent all) c.self.invariant.group_size c.in_err-_none.ensures.did in
     subst (λ v. NodeDid {Reply = reply} grows c.from_residual.result (handling.by_synod (node_of v rest).config (node_of v rest).state (cases.handle v.replicas c.args.from c.args.message.now v.synod)) (node_of v rest) (running config (record x { synod = after.replica })) sent all) c.self.view_is
-      (subst (λ r. NodeDid {Reply = reply} grows r (handling.by_synod config x deed) (running config x) (running config (record x { synod = after.replica })) sent all) (sym (failed.1 ∙ ap Err failed.2))
-      (by_member reply config x (left_again rest.scheduler.scheduling rest.scheduler.due) sent grows p.member.size p.member.me deed (Err e) after all none did))
+    (subst (λ r. NodeDid {Reply = reply} grows r (handling.by_synod config x deed) (running config x) (running config (record x { synod = after.replica })) sent all) (sym (failed.1 ∙ ap Err failed.2))
+    (by_member reply config x (left_again rest.scheduler.scheduling rest.scheduler.due) sent grows p.member.size p.member.me deed (Err e) after all none did))
 
 pub invariant_of-self-2 : goal.invariant_of-self-2
 invariant_of-self-2 g c =
@@ -55,4 +55,4 @@ returns-clause-did g c rest =
     let none = subst (λ v. given_by (cases.handle v.replicas c.args.from c.args.message.now v.synod) ≡ None) (sym c.self.view_is) c.requires in
     let did = subst (λ n. MemberSent grows (Ok c.in_ok-_none._none) (cases.handle n c.args.from c.args.message.now p.member.replica) p.config.replicas p.config.partitions p.id p.member after sent all) c.self.invariant.group_size c.in_ok-_none.ensures.did in
     subst (λ v. NodeDid {Reply = reply} grows (Ok tt) (handling.by_synod (node_of v rest).config (node_of v rest).state (cases.handle v.replicas c.args.from c.args.message.now v.synod)) (node_of v rest) (running config (record x { synod = after.replica })) sent all) c.self.view_is
-      (by_member reply config x (left_again rest.scheduler.scheduling rest.scheduler.due) sent grows p.member.size p.member.me deed (Ok c.in_ok-_none._none) after all none did)
+    (by_member reply config x (left_again rest.scheduler.scheduling rest.scheduler.due) sent grows p.member.size p.member.me deed (Ok c.in_ok-_none._none) after all none did)

@@ -27,7 +27,7 @@ returns-in_err-prepare_to_all-clause-did g c rest =
     let failed = err_from_is_err_and c.from_residual.result c.from_residual.ensures.1 in
     let sends = λ (batch : Batch g.row.A-Args.Denot). subst (λ m. Sends false (Err e) (cases.propose m (own_slot x c.args.epoch) batch p.member.replica)) c.self.invariant.replica (c.in_err-prepare_to_all.ensures batch) in
     subst (λ v. NodeDid {Reply = reply} true c.from_residual.result (acting.propose (node_of v rest).config c.args.epoch (node_of v rest).state) (node_of v rest) (node_of v rest) sent sent) c.self.view_is
-      (subst (λ r. NodeDid {Reply = reply} true r (acting.propose config c.args.epoch x) (running config x) (running config x) sent sent) (sym (failed.1 ∙ ap Err failed.2)) (spent reply config x is c.args.epoch sent e sends))
+    (subst (λ r. NodeDid {Reply = reply} true r (acting.propose config c.args.epoch x) (running config x) (running config x) sent sent) (sym (failed.1 ∙ ap Err failed.2)) (spent reply config x is c.args.epoch sent e sends))
 
 pub returns-in_default-clause-did : goal.returns-in_default-clause-did
 returns-in_default-clause-did g c rest =
@@ -78,8 +78,8 @@ returns-in_err-_none-clause-did g c rest =
     let failed = err_from_is_err_and c.from_residual-in_err-_none.result c.from_residual-in_err-_none.ensures.1 in
     let did = subst (λ m. MemberSent true (Err e) (cases.propose m (own_slot x c.args.epoch) batch p.member.replica) p.config.replicas p.config.partitions p.id p.member after sent all) c.self.invariant.replica c.in_err-_none.ensures.did in
     subst (λ v. NodeDid {Reply = reply} true c.from_residual-in_err-_none.result (acting.propose (node_of v rest).config c.args.epoch (node_of v rest).state) (node_of v rest) (running config (record x { synod = after.replica })) sent all) c.self.view_is
-      (subst (λ r. NodeDid {Reply = reply} true r (acting.propose config c.args.epoch x) (running config x) (running config (record x { synod = after.replica })) sent all) (sym (failed.1 ∙ ap Err failed.2))
-      (proposed reply config x is c.args.epoch sent c.in_ok-prepare_to_all.field-0 sends batch closed free p.member.size p.member.me (Err e) after all did))
+    (subst (λ r. NodeDid {Reply = reply} true r (acting.propose config c.args.epoch x) (running config x) (running config (record x { synod = after.replica })) sent all) (sym (failed.1 ∙ ap Err failed.2))
+    (proposed reply config x is c.args.epoch sent c.in_ok-prepare_to_all.field-0 sends batch closed free p.member.size p.member.me (Err e) after all did))
 
 pub invariant_of-self-2 : goal.invariant_of-self-2
 invariant_of-self-2 g c =
@@ -103,4 +103,4 @@ returns-clause-did g c rest =
     let free = sym (ap is_some c.held.ensures) ∙ copied_some c.held.result ∙ sym c.is_some.ensures ∙ c.if-is_some.false in
     let did = subst (λ m. MemberSent true (Ok c.in_ok-_none._none) (cases.propose m (own_slot x c.args.epoch) batch p.member.replica) p.config.replicas p.config.partitions p.id p.member after sent all) c.self.invariant.replica c.in_ok-_none.ensures.did in
     subst (λ v. NodeDid {Reply = reply} true (Ok tt) (acting.propose (node_of v rest).config c.args.epoch (node_of v rest).state) (node_of v rest) (running config (record x { synod = after.replica })) sent all) c.self.view_is
-      (proposed reply config x is c.args.epoch sent c.in_ok-prepare_to_all.field-0 sends batch closed free p.member.size p.member.me (Ok c.in_ok-_none._none) after all did)
+    (proposed reply config x is c.args.epoch sent c.in_ok-prepare_to_all.field-0 sends batch closed free p.member.size p.member.me (Ok c.in_ok-_none._none) after all did)

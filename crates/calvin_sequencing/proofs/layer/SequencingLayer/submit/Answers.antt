@@ -15,6 +15,6 @@ returns-clause-did g c rest =
     let config = config_of p.config.partitions p.config.replicas rest.points rest.cold in
     let next = with_sequencer x c.submit.new.self.sequencing in
     subst (λ v. NodeDid {Reply = g.row.A-Reply.Denot} true c.submit.result (acting.submit c.args.txn (node_of v rest).state) (node_of v rest) (running (config c.submit.new.self.delay) next) [] []) c.self.view_is
-      (subst (λ d. NodeDid {Reply = g.row.A-Reply.Denot} true c.submit.result (acting.submit c.args.txn x) (running (config p.sequencer.delay) x) (running (config d) next) [] []) (sym c.submit.ensures.delay)
-      (subst (λ r. NodeDid {Reply = g.row.A-Reply.Denot} true r (acting.submit c.args.txn x) (running (config p.sequencer.delay) x) (running (config p.sequencer.delay) next) [] []) (ended_is c.submit.result)
-      (sequenced g.row.A-Reply.Denot (config p.sequencer.delay) x (left_again rest.scheduler.scheduling rest.scheduler.due) (not (can_submit p.sequencer)) c.submit.result (sequencing.submit c.args.txn p.sequencer.sequencing) c.submit.new.self.sequencing c.submit.ensures.did)))
+    (subst (λ d. NodeDid {Reply = g.row.A-Reply.Denot} true c.submit.result (acting.submit c.args.txn x) (running (config p.sequencer.delay) x) (running (config d) next) [] []) (sym c.submit.ensures.delay)
+    (subst (λ r. NodeDid {Reply = g.row.A-Reply.Denot} true r (acting.submit c.args.txn x) (running (config p.sequencer.delay) x) (running (config p.sequencer.delay) next) [] []) (ended_is c.submit.result)
+    (sequenced g.row.A-Reply.Denot (config p.sequencer.delay) x (left_again rest.scheduler.scheduling rest.scheduler.due) (not (can_submit p.sequencer)) c.submit.result (sequencing.submit c.args.txn p.sequencer.sequencing) c.submit.new.self.sequencing c.submit.ensures.did)))

@@ -19,6 +19,6 @@ returns-clause-did g c rest =
     let all = c.post_warm.new.self.packets in
     let packets = warm_packets p.config.partitions p.id c.args.txn (participants p.config.partitions c.args.txn) in
     subst (λ v. NodeDid true (Ok tt) (acting.submit_cold (node_of v rest).config c.args.txn (node_of v rest).state) (node_of v rest) (running (config c.submit_cold.new.self.delay) (with_sequencer x s)) sent all) c.self.view_is
-      (subst (λ d. NodeDid true (Ok tt) (acting.submit_cold (config p.sequencer.delay) c.args.txn x) (running (config p.sequencer.delay) x) (running (config d) (with_sequencer x s)) sent all) (sym c.in_ok-submit_cold.ensures.delay)
-      (sequenced_and_sent g.row.A-Reply.Denot (config p.sequencer.delay) x (left_again rest.scheduler.scheduling rest.scheduler.due) (not (can_submit_cold p.sequencer)) c.in_ok-submit_cold.field-0 (sequencing.submit_cold p.sequencer.delay c.args.txn p.sequencer.sequencing) s packets sent all c.in_ok-submit_cold.ensures.did
-      (c.post_warm.ensures ∙ ap (λ ps. ps ++ packets) c.in_ok-reserve.ensures.packets)))
+    (subst (λ d. NodeDid true (Ok tt) (acting.submit_cold (config p.sequencer.delay) c.args.txn x) (running (config p.sequencer.delay) x) (running (config d) (with_sequencer x s)) sent all) (sym c.in_ok-submit_cold.ensures.delay)
+    (sequenced_and_sent g.row.A-Reply.Denot (config p.sequencer.delay) x (left_again rest.scheduler.scheduling rest.scheduler.due) (not (can_submit_cold p.sequencer)) c.in_ok-submit_cold.field-0 (sequencing.submit_cold p.sequencer.delay c.args.txn p.sequencer.sequencing) s packets sent all c.in_ok-submit_cold.ensures.did
+    (c.post_warm.ensures ∙ ap (λ ps. ps ++ packets) c.in_ok-reserve.ensures.packets)))
