@@ -3,12 +3,12 @@ ghost use Rattle.std.specs.Prelude.{◌≡◌, ◌≤◌, length};
 ghost use Rattle.calvin_types.specs.Faults.{number_of, name_of};
 
 use std::alloc::{AllocError, AllocFailed};
+use std::fmt::{self, Display, Formatter, Write};
 use thiserror::Error;
 
 /// Why a call was refused. Unless the call says otherwise, a refusal leaves the value that it was asked of as it was.
 /// Programs tell refusals apart by their numbers; shown as an error, one has its name alone.
 #[derive(Clone, Copy, Debug, PartialEq, Eq, Error)]
-#[error("{}", self.name())]
 pub enum Fault {
     /// There was no memory for what the call had to make or to grow.
     OutOfMemory = 1,
@@ -116,6 +116,12 @@ pub enum Fault {
     WriteFailed = 96,
     /// What came out isn't what the script expects.
     NotExpected = 100,
+}
+
+impl Display for Fault {
+    fn fmt<W: Write>(&self, f: &mut Formatter<W>) -> fmt::Result {
+        f.write_str(self.name())
+    }
 }
 
 impl Fault {
