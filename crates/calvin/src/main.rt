@@ -3,23 +3,7 @@
 //! prints the same; `calvin check` runs a list of events in a world and prints what became of them.
 #![tactic(auto)]
 
-#[cfg(test)]
-mod agreement_cases;
-#[cfg(test)]
-mod check_cases;
-mod command;
-mod ending;
-#[cfg(test)]
-mod event_lists;
-#[cfg(test)]
-mod limit_cases;
-#[cfg(test)]
-mod sim_cases;
-#[cfg(test)]
-mod snapshot_cases;
-#[cfg(test)]
-mod tests;
-
+use calvin_command::{command, refuse_words};
 use calvin_edge::{InputSource, OutputSink};
 use std::process::ExitCode;
 use std::{env, io};
@@ -29,8 +13,8 @@ fn main(rt: HostRuntime) -> ExitCode {
     let mut output = OutputSink::new(rt.stdout());
     let mut error = OutputSink::new(rt.stderr());
     let status = match words_of(&rt) {
-        Ok(words) => command::command(rt.alloc(), &words, &mut input, &mut output, &mut error),
-        Err(why) => ending::refuse_words(why.kind(), &mut error),
+        Ok(words) => command(rt.alloc(), &words, &mut input, &mut output, &mut error),
+        Err(why) => refuse_words(why.kind(), &mut error),
     };
     ExitCode::from(status)
 }

@@ -1,0 +1,101 @@
+-- How the program ends for a fault.
+use Rattle.std.proofs.Common.{◌≡◌, ◌≢◌, ◌+◌, ◌<◌, ◌∙◌, ℕ, List, length, take, inl, inr, refl, sym, subst, arith, Option, Some, None, Result, Ok, Err, IfSome}
+use Rattle.std.specs.Prelude.{IsErr}
+use Rattle.std.specs.Io.KnownBytes.{Appends}
+use Rattle.calvin_types.specs.declared.fault.Fault.{Fault}
+use Rattle.calvin_types.specs.declared.fault.Fault.TheVariants.{OutOfMemory, BadJson, BadScript, ScriptTooLong, ReadFailed, WriteFailed, NotExpected, Closed, NoRun, NotEnded}
+use Rattle.calvin_edge.specs.declared.source.Source as source
+use Rattle.calvin_edge.specs.declared.sink.Sink as sink
+use Rattle.calvin_edge.specs.Answering.{HasText, Refuses}
+use Rattle.calvin_edge.specs.Complaints.{complaint}
+use Rattle.calvin_serial.specs.Engine.{IsSerialFault}
+use Rattle.calvin_check.specs.Checks.{IsCheckFault}
+use Rattle.calvin_sim.specs.Engine.{IsSimFault}
+use Rattle.calvin_command.specs.Ends.{Runs, Tells}
+use Rattle.calvin_command.specs.Statuses.{status_of, IsStatus}
+
+-- a fault of the engine `serial` ends with one of the statuses
+pub serial_status : (fault : Fault) → IsSerialFault fault → IsStatus (status_of fault)
+serial_status OutOfMemory h = inr (inr (inr (inl refl)))
+serial_status BadJson h = inr (inl refl)
+serial_status BadScript h = inr (inl refl)
+serial_status ScriptTooLong h = inr (inl refl)
+serial_status ReadFailed h = inr (inr (inr (inr refl)))
+serial_status WriteFailed h = inr (inr (inr (inr refl)))
+serial_status _ h = absurd h
+
+-- and so does one of the engine `check`
+pub check_status : (fault : Fault) → IsCheckFault fault → IsStatus (status_of fault)
+check_status OutOfMemory h = inr (inr (inr (inl refl)))
+check_status BadJson h = inr (inl refl)
+check_status BadScript h = inr (inl refl)
+check_status ScriptTooLong h = inr (inl refl)
+check_status NotExpected h = inr (inr (inl refl))
+check_status ReadFailed h = inr (inr (inr (inr refl)))
+check_status WriteFailed h = inr (inr (inr (inr refl)))
+check_status _ h = absurd h
+
+-- and one of the engine `sim`
+pub sim_status : (fault : Fault) → IsSimFault fault → IsStatus (status_of fault)
+sim_status OutOfMemory h = inr (inr (inr (inl refl)))
+sim_status BadJson h = inr (inl refl)
+sim_status BadScript h = inr (inl refl)
+sim_status ScriptTooLong h = inr (inl refl)
+sim_status ReadFailed h = inr (inr (inr (inr refl)))
+sim_status WriteFailed h = inr (inr (inr (inr refl)))
+sim_status _ h = absurd h
+
+-- ---- a run that ended by a fault
+
+never_well : (fault : Fault) → status_of fault ≡ 0 → ⊥
+never_well OutOfMemory e = omega (arith, e)
+never_well NotExpected e = omega (arith, e)
+never_well Closed e = omega (arith, e)
+never_well NoRun e = omega (arith, e)
+never_well NotEnded e = omega (arith, e)
+never_well ReadFailed e = omega (arith, e)
+never_well WriteFailed e = omega (arith, e)
+never_well _ e = omega (arith, e)
+
+is_refusal : {X : Type 0} (fault : Fault) (answer : Result X Fault) → status_of fault ≡ 2 → Refuses fault answer → answer ≡ Err fault
+is_refusal OutOfMemory answer e refuses = absurd (omega (arith, e))
+is_refusal BadJson answer e refuses = refuses
+is_refusal BadScript answer e refuses = refuses
+is_refusal ScriptTooLong answer e refuses = refuses
+is_refusal ReadFailed answer e refuses = absurd (omega (arith, e))
+is_refusal WriteFailed answer e refuses = absurd (omega (arith, e))
+is_refusal _ answer e refuses = absurd refuses
+
+-- only a failed write makes the output's failures more
+is_failed_write : (fault : Fault) (failures later : ℕ) → (fault ≢ WriteFailed → later ≡ failures) → later ≡ failures + 1 → fault ≡ WriteFailed
+is_failed_write WriteFailed failures later well more = refl
+is_failed_write _ failures later well more = let same = well (λ e. cc) in absurd (omega (arith, same, more))
+
+pub some_also : {X : Type 0} {P Q : X → Type 0} (o : Option X) → ((x : X) → P x → Q x) → IfSome o P → IfSome o Q
+some_also None also h = tt
+some_also (Some x) also h = also x h
+
+pub ended_by : {S K E X : Type 0} (from : source.Ghosts S) (to : sink.Ghosts K) (telling : sink.Ghosts E) (input input_after : S) (output output_after : K)
+    (error error_after : E) (status : ℕ) (read : List ℕ → Result X Fault) (IsText : List ℕ → List ℕ → Type 0) (fault : Fault) → status ≡ status_of fault
+    → IfSome (from.left input) (λ bytes. Refuses fault (read bytes))
+    → Tells (telling.taken error) (telling.taken error_after) (telling.failures error) (telling.failures error_after) (complaint fault)
+    → (fault ≢ WriteFailed → to.failures output_after ≡ to.failures output)
+    → (fault ≡ WriteFailed → IfSome (from.left input) (λ bytes. (text : List ℕ) × IsText bytes text
+    × (n : ℕ) × (n < length text) × Appends (to.taken output) (to.taken output_after) (take n text)))
+    → Runs from to telling input input_after output output_after error error_after status read IsText
+ended_by from to telling input input_after output output_after error error_after status read IsText fault is refused told wrote_well beginning = record {
+  written = λ zero. absurd (never_well fault (sym is ∙ zero));
+  refused = λ two. some_also (from.left input) (λ bytes refuses. subst IsErr (sym (is_refusal fault (read bytes) (sym is ∙ two) refuses)) refl) refused;
+  told_refusal = λ two. (
+    fault,
+    sym is ∙ two,
+    some_also (from.left input) (λ bytes refuses. is_refusal fault (read bytes) (sym is ∙ two) refuses) refused,
+    told,
+  );
+  beginning = λ failed. beginning (is_failed_write fault _ _ wrote_well failed);
+}
+
+-- there is such a text
+pub has_text : (answer : Result (List ℕ) Fault) (P : List ℕ → Type 0) → HasText answer P → (text : List ℕ) × (answer ≡ Ok text) × P text
+has_text (Ok text) P h = (text, refl, h)
+has_text (Err fault) P h = absurd h

@@ -1,0 +1,131 @@
+-- Lines of the program, as clap reads them.
+use Rattle.std.proofs.Common.{◌≡◌, ◌||◌, ap₂, ℕ, List, [], ◌∷◌, codes, false, true, option_map, Option, Some, None, ⊎_elim, refl, ap, sym, subst, ◌∙◌, Box}
+use Rattle.std.specs.Prelude.{if◌then◌else◌}
+use Rattle.clap.specs.Words.{App, Rule, AddsArg, app_of, rule_of, with_rule, subcommand_of, Text, Row, is_simple, is_simple_and_free, subcommand_rows, subcommand_rows_of, subcommand_name_of}
+use Rattle.clap.specs.declared.builder.arg.Arg.{Arg}
+use Rattle.clap.specs.declared.builder.command.Command.{Command}
+use Rattle.clap.specs.declared.builder.command.Command.TheViews.{out-Command}
+use Rattle.clap.specs.declared.parser.matches.ArgMatches.{ArgMatches}
+use Rattle.clap.specs.declared.parser.matches.ArgMatches.TheViews.{out-ArgMatches, out-SubCommand}
+use Rattle.clap.specs.declared.parser.matches.SubCommand.{SubCommand}
+use Rattle.std.specs.Box.{box_value}
+use Rattle.clap.proofs.OnLiterals.{clap_on_literals}
+use Rattle.calvin_serial.specs.declared.undeclared.UndeclaredSets.{UndeclaredSets}
+use Rattle.calvin_serial.specs.declared.undeclared.UndeclaredSets.TheVariants.{First, Scouted}
+use Rattle.calvin_sim.specs.declared.schedule.Schedule.{Schedule}
+use Rattle.calvin_sim.specs.declared.schedule.Restarts.TheVariants.{Never}
+use Rattle.calvin_command.specs.Line.{calvin, IsSerialLine, IsHelpLine, IsBadLine, IsPlainSerialLine, IsPlainCheckLine, IsPlainSimLine, IsScoutLine, IsCheckLine, IsSimLine, IsAsked, IsUsual, has_flag, number_of, restarts_of, rows_found, sets_of, sets_asked, Names}
+
+-- the words are for `serial`, and ask for these sets
+abbrev pub Asks : UndeclaredSets → List (List ℕ) → Type 0
+Asks sets words = IsSerialLine words × (sets_asked words ≡ sets)
+
+pub is_serial_line : (program : List ℕ) → Asks First (program ∷ codes "serial" ∷ [])
+unfolding clap_on_literals
+is_serial_line program = ((refl, refl), refl)
+
+pub is_serial_scout_line : (program : List ℕ) → Asks Scouted (program ∷ codes "serial" ∷ codes "--scout" ∷ [])
+unfolding clap_on_literals
+is_serial_scout_line program = ((refl, refl), refl)
+
+pub is_plain_line : (words : List (List ℕ)) → IsPlainSerialLine words → IsSerialLine words × (sets_asked words ≡ First)
+is_plain_line words plain = subst (Asks First) (sym plain.1) (is_serial_line plain.0)
+
+pub is_scout_line : (words : List (List ℕ)) → IsScoutLine words → IsSerialLine words × (sets_asked words ≡ Scouted)
+is_scout_line words scout = subst (Asks Scouted) (sym scout.1) (is_serial_scout_line scout.0)
+
+check_written : (program : List ℕ) → IsCheckLine (program ∷ codes "check" ∷ [])
+unfolding clap_on_literals
+check_written program = (refl, refl)
+
+pub is_check_line : (words : List (List ℕ)) → IsPlainCheckLine words → IsCheckLine words
+is_check_line words plain = subst IsCheckLine (sym plain.1) (check_written plain.0)
+
+sim_written : (program : List ℕ) → IsSimLine (program ∷ codes "sim" ∷ [])
+unfolding clap_on_literals
+sim_written program = (refl, refl)
+
+-- the numbers that `calvin sim` asks for
+abbrev pub AsksUsual : List (List ℕ) → Type 0
+AsksUsual words = let rows = rows_found (subcommand_of calvin words) in
+    (number_of (codes "start") rows ≡ Some 1) × (number_of (codes "steps") rows ≡ Some 1000) × (number_of (codes "replicas") rows ≡ Some 3)
+    × (restarts_of rows ≡ Never)
+
+sim_usual : (program : List ℕ) → AsksUsual (program ∷ codes "sim" ∷ [])
+unfolding clap_on_literals
+sim_usual program = (refl, refl, refl, refl)
+
+some_same : (m n : ℕ) → Some m ≡ Some n → m ≡ n
+some_same m n e = cc
+
+usual_schedule : (words : List (List ℕ)) → AsksUsual words → (schedule : Schedule) → IsAsked words schedule → IsUsual schedule
+usual_schedule words usual schedule asked = (
+  some_same _ _ (sym asked.start ∙ usual.0),
+  some_same _ _ (sym asked.steps ∙ usual.1),
+  some_same _ _ (sym asked.replicas ∙ usual.2),
+  asked.restarts ∙ usual.3,
+)
+
+pub is_sim_line : (words : List (List ℕ)) → IsPlainSimLine words → IsSimLine words × ((schedule : Schedule) → IsAsked words schedule → IsUsual schedule)
+is_sim_line words plain = (
+  subst IsSimLine (sym plain.1) (sim_written plain.0),
+  usual_schedule words (subst AsksUsual (sym plain.1) (sim_usual plain.0)),
+)
+
+-- lines that are written out: calls for help, no word at all, and a flag that is given twice
+pub is_help_line : (program : List ℕ) → IsHelpLine (program ∷ codes "--help" ∷ [])
+unfolding clap_on_literals
+is_help_line program = refl
+
+pub is_serial_help_line : (program : List ℕ) → IsHelpLine (program ∷ codes "serial" ∷ codes "--help" ∷ [])
+unfolding clap_on_literals
+is_serial_help_line program = refl
+
+pub is_check_help_line : (program : List ℕ) → IsHelpLine (program ∷ codes "check" ∷ codes "--help" ∷ [])
+unfolding clap_on_literals
+is_check_help_line program = refl
+
+pub is_bare_line_bad : (program : List ℕ) → IsBadLine (program ∷ [])
+unfolding clap_on_literals
+is_bare_line_bad program = (λ e. cc, λ among. ⊎_elim (λ e. cc) (λ other. absurd other) among)
+
+pub is_scout_twice_bad : (program : List ℕ) → IsBadLine (program ∷ codes "serial" ∷ codes "--scout" ∷ codes "--scout" ∷ [])
+unfolding clap_on_literals
+is_scout_twice_bad program = (λ e. cc, λ among. ⊎_elim (λ e. cc) (λ other. absurd other) among)
+
+pub is_simple_line : is_simple calvin ≡ true
+is_simple_line = refl
+
+pub is_free_line : is_simple_and_free calvin ≡ true
+is_free_line = refl
+
+same_name : {Z : Type 0} (s : Option (Box SubCommand Z)) → option_map (λ b. (out-SubCommand (box_value b)).name.now) s ≡ option_map (λ p. p.0) (subcommand_rows s)
+same_name None = refl
+same_name (Some b) = refl
+
+-- the matches of words that name a subcommand name it
+pub name_is : (name : List ℕ) (m : ArgMatches) (words : List (List ℕ)) → subcommand_rows_of m ≡ subcommand_of calvin words → Names name words → subcommand_name_of m ≡ Some name
+name_is name m words e named = same_name (out-ArgMatches m).subcommand ∙ ap (option_map (λ p. p.0)) e ∙ named
+
+-- and what they name the words name
+pub is_name : (name : List ℕ) (m : ArgMatches) (words : List (List ℕ)) → subcommand_rows_of m ≡ subcommand_of calvin words → subcommand_name_of m ≡ Some name → Names name words
+is_name name m words e named = ap (option_map (λ p. p.0)) (sym e) ∙ sym (same_name (out-ArgMatches m).subcommand) ∙ named
+
+-- what clap found of `serial` tells which sets are asked for
+pub sets_found : (s : Option (Text × List Row)) (rows : List Row) → option_map (λ p. p.1) s ≡ Some rows → sets_of s ≡ (if has_flag (codes "scout") rows then Scouted else First)
+sets_found None rows e = absurd (cc)
+sets_found (Some p) rows e = let same : p.1 ≡ rows = cc in ap (λ rs. if has_flag (codes "scout") rs then Scouted else First) same
+
+-- the rows of a subcommand are those that were found of it
+pub same_rows : (s : Option (Text × List Row)) (rows : List Row) → option_map (λ p. p.1) s ≡ Some rows → rows_found s ≡ rows
+same_rows None rows e = absurd (cc)
+same_rows (Some p) rows e = cc
+
+-- the command is such an application, and no argument of it is global
+abbrev pub AddsTo : App → Command → Type 0
+AddsTo app made = (app_of made ≡ app) × ((out-Command made).has_globals ≡ false)
+
+pub added : (app : App) (rule : Rule) (old : Command) (a : Arg) (made : Command) → AddsArg old a made → rule_of a ≡ rule → a.global ≡ false
+    → AddsTo app old → AddsTo (with_rule app rule) made
+added app rule old a made adds is local before =
+    (adds.shape local ∙ ap₂ with_rule before.0 is, adds.globals ∙ ap₂ (λ x y. x || y) before.1 local)

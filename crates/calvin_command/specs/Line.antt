@@ -1,0 +1,223 @@
+-- Which command lines ask for what. They are of this project; what a line is to `clap` is of its specifications.
+--     flag name      a flag of this name
+--     number_option name least most default      an option of this name that takes a number in a range, and without it the default
+--     scout_flag, restarts_flag      the flag `--scout` of `serial`, and `--restarts` of `sim`
+--     start_option, steps_option, replicas_option      the options of `sim`
+--     serial_app, check_app, sim_app      the subcommands `serial`, `check` and `sim`
+--     calvin      the program's command line, as clap sees it
+--     IsTaken words      clap takes the words
+--     Names name words      as clap reads them, the words name the subcommand of this name
+--     IsSerialLine words, IsCheckLine words, IsSimLine words      clap takes the words, and reads that they name the subcommand `serial`;  `check`;  `sim`
+--     has_flag name rows      the flag of this name is among what clap found
+--     sets_of found      the undeclared sets that are asked for by what clap found of a subcommand
+--     sets_asked words      the undeclared sets that the words ask for, as clap reads them
+--     number_in text      the number that a text writes, if it writes one
+--     number_of name rows      the number among what clap found for the option of this name
+--     restarts_of rows      whether nodes restart by what clap found
+--     IsScheduleOf rows schedule      what clap found asks for this schedule
+--     IsAsked words schedule      the words ask for this schedule, as clap reads them
+--     IsUsual schedule      it is the one that is run where nothing else is asked for
+--     IsHelpLine words      clap answers the words with help
+--     IsBadLine words      clap refuses the words, and not with help
+--     HasHelpWord words      `help` stands among the words after the program's name
+--     IsPlainSerialLine words, IsPlainCheckLine words, IsPlainSimLine words      the words are the program's name and `serial`;  and `check`;  and `sim`
+--     IsScoutLine words      the words are the program's name, `serial` and `--scout`
+--     IsOf name wish      the wish is for the subcommand of this name
+--     IsRun words wish      where a run is asked for, the words are for it
+--     IsSerial sets wish      the serial run is asked for with these undeclared sets, unless memory ran out
+--     IsCheck wish      the run of a list of events is asked for, unless memory ran out
+--     IsSim words wish      the run of a script in a world is asked for with a schedule that the words ask for, unless memory ran out
+--     IsHelp wish      help is asked for, unless memory ran out
+--     IsRefused wish      nothing is asked for
+use Rattle.std.specs.Prelude.{◌≡◌, ◌≢◌, ◌≤◌, ◌&&◌, ◌^◌, ℕ, List, [], ◌∷◌, Option, Some, None, option_map, option_and_then, if◌then◌else◌, nat_lt, Result, Ok, Err, codes, drop, Bool, true, false}
+use Rattle.std.specs.Option.{option_map_or}
+use Rattle.std.specs.Str.{bytes_eq}
+use Rattle.std.specs.Str.Parse.{digits_value, without_leading_plus}
+use Rattle.std.specs.List.{Contains}
+use Rattle.clap.specs.ValueTests.{is_numeral}
+use Rattle.clap.specs.Words.{App, Rule, Row, Text, new_app, new_rule, with_rule, with_subcommand, first_of, subcommand_of, fault_of, IsAmong}
+use Rattle.clap.specs.declared.builder.action.ArgAction.TheVariants.{Set, SetTrue}
+use Rattle.clap.specs.declared.builder.value_parser.ValueParser.TheVariants.{Unsigned}
+use Rattle.clap.specs.declared.error.kind.ErrorKind.TheVariants.{DisplayHelp}
+use Rattle.calvin_types.specs.declared.limits.TheConstants.{MOST_REPLICAS}
+use Rattle.calvin_serial.specs.declared.undeclared.UndeclaredSets.{UndeclaredSets}
+use Rattle.calvin_serial.specs.declared.undeclared.UndeclaredSets.TheVariants.{First, Scouted}
+use Rattle.calvin_sim.specs.declared.schedule.TheConstants.{MOST_STEPS}
+use Rattle.calvin_sim.specs.declared.schedule.Schedule.{Schedule}
+use Rattle.calvin_sim.specs.declared.schedule.Restarts.{Restarts}
+use Rattle.calvin_sim.specs.declared.schedule.Restarts.TheVariants.{Never, AboveReplicaZero}
+use Rattle.calvin_command.specs.declared.dispatch.Wish.{Wish}
+use Rattle.calvin_command.specs.declared.dispatch.Wish.TheVariants.{Serial, Check, Sim, Help}
+use Rattle.calvin_command.specs.declared.command.Refusal.{Refusal}
+use Rattle.calvin_command.specs.declared.command.Refusal.TheVariants.{BadLine, OutOfMemory}
+
+abbrev pub flag : Text → Rule
+flag name = record (new_rule name) { long = Some name; action = Some SetTrue }
+
+abbrev pub number_option : Text → ℕ → ℕ → Text → Rule
+number_option name least most default = record (new_rule name) {
+  long = Some name;
+  action = Some Set;
+  parser = Some (Unsigned least most);
+  value_names = 1;
+  defaults = default ∷ [];
+}
+
+abbrev pub scout_flag : Rule
+scout_flag = flag (codes "scout")
+
+-- `serial`, which has this flag
+abbrev pub serial_app : App
+serial_app = with_rule (new_app (codes "serial")) scout_flag
+
+-- `check`, which has none
+abbrev pub check_app : App
+check_app = new_app (codes "check")
+
+-- `sim`, which has a flag and three options
+abbrev pub restarts_flag : Rule
+restarts_flag = flag (codes "restarts")
+
+abbrev pub start_option : Rule
+start_option = number_option (codes "start") 0 18446744073709551615 (codes "1")
+
+abbrev pub steps_option : Rule
+steps_option = number_option (codes "steps") 0 MOST_STEPS (codes "1000")
+
+abbrev pub replicas_option : Rule
+replicas_option = number_option (codes "replicas") 1 MOST_REPLICAS (codes "3")
+
+abbrev pub sim_app : App
+sim_app = with_rule (with_rule (with_rule (with_rule (new_app (codes "sim")) start_option) steps_option) replicas_option) restarts_flag
+
+-- the program: one of its subcommands is required
+abbrev pub calvin : App
+calvin = let plain = new_app (codes "calvin") in
+    let required = record plain { top = record plain.top { subcommand_required = true } } in
+    with_subcommand (with_subcommand (with_subcommand required serial_app.top) check_app.top) sim_app.top
+
+-- clap has no error for the words
+abbrev pub IsTaken : List (List ℕ) → Type 0
+IsTaken words = fault_of calvin words ≡ []
+
+abbrev pub Names : List ℕ → List (List ℕ) → Type 0
+Names name words = option_map (λ s. s.0) (subcommand_of calvin words) ≡ Some name
+
+abbrev pub IsSerialLine : List (List ℕ) → Type 0
+IsSerialLine words = IsTaken words × Names (codes "serial") words
+
+abbrev pub IsCheckLine : List (List ℕ) → Type 0
+IsCheckLine words = IsTaken words × Names (codes "check") words
+
+abbrev pub IsSimLine : List (List ℕ) → Type 0
+IsSimLine words = IsTaken words × Names (codes "sim") words
+
+abbrev pub has_flag : Text → List Row → Bool
+has_flag name rows = option_map_or (λ value. bytes_eq value (codes "true")) (first_of name rows) false
+
+-- what clap found of a subcommand
+abbrev pub rows_found : Option (Text × List Row) → List Row
+rows_found found = option_map_or (λ s. s.1) found []
+
+abbrev pub sets_of : Option (Text × List Row) → UndeclaredSets
+sets_of found = if has_flag (codes "scout") (rows_found found) then Scouted else First
+
+abbrev pub sets_asked : List (List ℕ) → UndeclaredSets
+sets_asked words = sets_of (subcommand_of calvin words)
+
+-- in decimal digits, after a plus or none, and below 2 ^ 64
+abbrev pub number_in : Text → Option ℕ
+number_in text =
+    let digits = without_leading_plus text in
+    if is_numeral digits && nat_lt (digits_value 10 digits) (2 ^ 64) then Some (digits_value 10 digits) else None
+
+abbrev pub number_of : Text → List Row → Option ℕ
+number_of name rows = option_and_then number_in (first_of name rows)
+
+abbrev pub restarts_of : List Row → Restarts
+restarts_of rows = if has_flag (codes "restarts") rows then AboveReplicaZero else Never
+
+pub record IsScheduleOf (rows : List Row) (schedule : Schedule) : Type 0 where
+  pub start : number_of (codes "start") rows ≡ Some schedule.start
+  pub steps : number_of (codes "steps") rows ≡ Some schedule.steps
+  pub replicas : number_of (codes "replicas") rows ≡ Some schedule.replicas
+  pub restarts : schedule.restarts ≡ restarts_of rows
+  pub steps_at_most : schedule.steps ≤ MOST_STEPS
+
+abbrev pub IsAsked : List (List ℕ) → Schedule → Type 0
+IsAsked words schedule = IsScheduleOf (rows_found (subcommand_of calvin words)) schedule
+
+abbrev pub IsUsual : Schedule → Type 0
+IsUsual schedule = (schedule.start ≡ 1) × (schedule.steps ≡ 1000) × (schedule.replicas ≡ 3) × (schedule.restarts ≡ Never)
+
+-- help is all that clap has for the words
+abbrev pub IsHelpLine : List (List ℕ) → Type 0
+IsHelpLine words = fault_of calvin words ≡ DisplayHelp ∷ []
+
+-- clap has an error for the words, and it isn't help
+abbrev pub IsBadLine : List (List ℕ) → Type 0
+IsBadLine words = (fault_of calvin words ≢ []) × ¬ IsAmong DisplayHelp (fault_of calvin words)
+
+abbrev pub HasHelpWord : List (List ℕ) → Type 0
+HasHelpWord words = Contains (drop 1 words) (codes "help")
+
+abbrev pub IsPlainSerialLine : List (List ℕ) → Type 0
+IsPlainSerialLine words = (program : List ℕ) × (words ≡ program ∷ codes "serial" ∷ [])
+
+abbrev pub IsPlainCheckLine : List (List ℕ) → Type 0
+IsPlainCheckLine words = (program : List ℕ) × (words ≡ program ∷ codes "check" ∷ [])
+
+abbrev pub IsPlainSimLine : List (List ℕ) → Type 0
+IsPlainSimLine words = (program : List ℕ) × (words ≡ program ∷ codes "sim" ∷ [])
+
+abbrev pub IsScoutLine : List (List ℕ) → Type 0
+IsScoutLine words = (program : List ℕ) × (words ≡ program ∷ codes "serial" ∷ codes "--scout" ∷ [])
+
+abbrev pub IsOf : Option (List ℕ) → Wish → Type 0
+IsOf name (Serial sets) = name ≡ Some (codes "serial")
+IsOf name Check = name ≡ Some (codes "check")
+IsOf name (Sim schedule) = name ≡ Some (codes "sim")
+IsOf name (Help e) = ⊥
+
+abbrev pub IsRun : List (List ℕ) → Result Wish Refusal → Type 0
+IsRun words (Ok (Serial sets)) = IsSerialLine words
+IsRun words (Ok Check) = IsCheckLine words
+IsRun words (Ok (Sim schedule)) = IsSimLine words
+IsRun words (Ok (Help e)) = Unit {0}
+IsRun words (Err refusal) = Unit {0}
+
+abbrev pub IsSerial : UndeclaredSets → Result Wish Refusal → Type 0
+IsSerial sets (Ok (Serial asked)) = asked ≡ sets
+IsSerial sets (Ok Check) = ⊥
+IsSerial sets (Ok (Sim schedule)) = ⊥
+IsSerial sets (Ok (Help e)) = ⊥
+IsSerial sets (Err BadLine) = ⊥
+IsSerial sets (Err OutOfMemory) = Unit {0}
+
+abbrev pub IsCheck : Result Wish Refusal → Type 0
+IsCheck (Ok (Serial asked)) = ⊥
+IsCheck (Ok Check) = Unit {0}
+IsCheck (Ok (Sim schedule)) = ⊥
+IsCheck (Ok (Help e)) = ⊥
+IsCheck (Err BadLine) = ⊥
+IsCheck (Err OutOfMemory) = Unit {0}
+
+abbrev pub IsSim : List (List ℕ) → Result Wish Refusal → Type 0
+IsSim words (Ok (Serial asked)) = ⊥
+IsSim words (Ok Check) = ⊥
+IsSim words (Ok (Sim schedule)) = IsAsked words schedule
+IsSim words (Ok (Help e)) = ⊥
+IsSim words (Err BadLine) = ⊥
+IsSim words (Err OutOfMemory) = Unit {0}
+
+abbrev pub IsHelp : Result Wish Refusal → Type 0
+IsHelp (Ok (Serial sets)) = ⊥
+IsHelp (Ok Check) = ⊥
+IsHelp (Ok (Sim schedule)) = ⊥
+IsHelp (Ok (Help e)) = Unit {0}
+IsHelp (Err BadLine) = ⊥
+IsHelp (Err OutOfMemory) = Unit {0}
+
+abbrev pub IsRefused : Result Wish Refusal → Type 0
+IsRefused (Ok wish) = ⊥
+IsRefused (Err refusal) = Unit {0}

@@ -1,0 +1,8 @@
+//! The command line of the program: which words are a line of it, which engine a line runs, and how it ends.
+#![tactic(auto)]
+
+mod dispatch;
+mod ending;
+
+pub use dispatch::command;
+pub use ending::refuse_words;
