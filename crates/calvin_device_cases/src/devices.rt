@@ -1,5 +1,6 @@
 //! Scripts in and texts out, over devices that give and take as many bytes as they are told, and fail where they are
 //! told.
+use crate::checks::{holds, same};
 use calvin_edge::{
     FailingSink, FailingSource, InputSource, MOST_BYTES, MemorySink, MemorySource, OutputSink,
     ReadFailed, Tally, WriteFailed, WriteFailure, complaint, read_all, write_all,
@@ -20,27 +21,27 @@ fn crosses_threads<T: Send + Sync>(_one: &T) {}
 #[test]
 fn a_tally_takes_one_byte(rt: HostRuntime) {
     let mut tally = Tally::new();
-    assert!(rt; !tally.is_raised());
+    holds(&rt, !tally.is_raised());
     tally.raise();
     tally.raise();
-    assert!(rt; tally.is_raised());
-    assert_eq!(rt; size_of::<Tally>(), 1);
+    holds(&rt, tally.is_raised());
+    same(&rt, size_of::<Tally>(), 1);
     crosses_threads(&tally);
 }
 
 #[test]
 fn a_source_is_read_to_its_end(rt: HostRuntime) -> Result<(), Fail> {
     let mut source = MemorySource::new(TEXT);
-    assert_eq!(rt; read_all(rt.alloc(), &mut source)?.as_slice(), TEXT);
-    assert_eq!(rt; read_all(rt.alloc(), &mut source)?.len(), 0);
+    same(&rt, read_all(rt.alloc(), &mut source)?.as_slice(), TEXT);
+    same(&rt, read_all(rt.alloc(), &mut source)?.len(), 0);
     for most in [1, 7, NEVER] {
         let mut source = FailingSource {
             most,
             ..FailingSource::new(TEXT)
         };
         let text = read_all(rt.alloc(), &mut source)?;
-        assert_eq!(rt; text.as_slice(), TEXT, "at {most} bytes a read");
-        assert!(rt; !source.failures.is_raised());
+        same(&rt, (most, text.as_slice()), (most, TEXT));
+        holds(&rt, !source.failures.is_raised());
     }
     Ok(())
 }
@@ -67,13 +68,13 @@ fn a_refused_read_is_told(rt: HostRuntime) {
             ..FailingSource::new(TEXT)
         };
         let found = read_all(rt.alloc(), &mut source);
-        assert_eq!(rt; found.err(), Some(Fault::ReadFailed));
-        assert_eq!(rt;
-            source.left,
-            &TEXT[given..],
-            "after {calls} calls, {bytes} bytes"
+        same(&rt, found.err(), Some(Fault::ReadFailed));
+        same(
+            &rt,
+            (calls, bytes, source.left),
+            (calls, bytes, &TEXT[given..]),
         );
-        assert!(rt; source.failures.is_raised());
+        holds(&rt, source.failures.is_raised());
     }
 }
 
@@ -92,16 +93,17 @@ fn nothing_is_read_past_one_byte_too_many(rt: HostRuntime) -> Result<(), Fail> {
                 ..FailingSource::new(&bytes)
             };
             let text = read_all(rt.alloc(), &mut source);
-            assert_eq!(rt; source.left.len(), long.saturating_sub(MOST_BYTES + 1));
-            assert!(rt; !source.failures.is_raised());
+            same(&rt, source.left.len(), long.saturating_sub(MOST_BYTES + 1));
+            holds(&rt, !source.failures.is_raised());
             match text {
-                Ok(text) => assert_eq!(rt; text.as_slice(), bytes.as_slice()),
-                Err(refused) => assert_eq!(rt; Some(refused), fault, "at {long} bytes"),
+                Ok(text) => same(&rt, text.as_slice(), bytes.as_slice()),
+                Err(refused) => same(&rt, (long, Some(refused)), (long, fault)),
             }
         }
-        assert_eq!(rt;
+        same(
+            &rt,
             read_all(rt.alloc(), &mut MemorySource::new(&bytes)).err(),
-            fault
+            fault,
         );
     }
     Ok(())
@@ -111,18 +113,18 @@ fn nothing_is_read_past_one_byte_too_many(rt: HostRuntime) -> Result<(), Fail> {
 fn a_text_is_written_whole(rt: HostRuntime) -> Result<(), Fail> {
     let mut sink = MemorySink::new(rt.alloc());
     for text in [TEXT, b"", b"more"] {
-        assert_eq!(rt; write_all(&mut sink, text), Ok(()));
+        same(&rt, write_all(&mut sink, text), Ok(()));
     }
-    assert_eq!(rt; sink.taken.len(), TEXT.len() + 4);
-    assert!(rt; !sink.failures.is_raised());
+    same(&rt, sink.taken.len(), TEXT.len() + 4);
+    holds(&rt, !sink.failures.is_raised());
     for most in [1, 7, NEVER] {
         let mut sink = FailingSink {
             most,
             ..FailingSink::new(rt.alloc())
         };
-        assert_eq!(rt; write_all(&mut sink, TEXT), Ok(()));
-        assert_eq!(rt; sink.taken.as_slice(), TEXT, "at {most} bytes a write");
-        assert!(rt; !sink.failures.is_raised());
+        same(&rt, write_all(&mut sink, TEXT), Ok(()));
+        same(&rt, (most, sink.taken.as_slice()), (most, TEXT));
+        holds(&rt, !sink.failures.is_raised());
     }
     Ok(())
 }
@@ -150,13 +152,13 @@ fn a_failed_write_is_told(rt: HostRuntime) {
                 failure,
                 ..FailingSink::new(rt.alloc())
             };
-            assert_eq!(rt; write_all(&mut sink, TEXT), Err(WriteFailed));
-            assert_eq!(rt;
-                sink.taken.as_slice(),
-                &TEXT[..out],
-                "{failure:?} after {calls}, {bytes}"
+            same(&rt, write_all(&mut sink, TEXT), Err(WriteFailed));
+            same(
+                &rt,
+                (failure, calls, bytes, sink.taken.as_slice()),
+                (failure, calls, bytes, &TEXT[..out]),
             );
-            assert!(rt; sink.failures.is_raised());
+            holds(&rt, sink.failures.is_raised());
         }
     }
 }
@@ -228,11 +230,11 @@ fn an_interrupted_read_is_tried_again(rt: HostRuntime) -> Result<(), Fail> {
         let bytes = Vec::from_slice(rt.alloc(), TEXT)?;
         let mut source = InputSource::new(Signalled::new(bytes, until));
         match read_all(rt.alloc(), &mut source) {
-            Ok(text) => assert_eq!(rt; text.as_slice(), TEXT),
-            Err(fault) => assert_eq!(rt; fault, Fault::ReadFailed),
+            Ok(text) => same(&rt, text.as_slice(), TEXT),
+            Err(fault) => same(&rt, fault, Fault::ReadFailed),
         }
-        assert_eq!(rt; source.failures.is_raised(), !is_whole);
-        assert_eq!(rt; source.reader.moved, TEXT.len().min(until));
+        same(&rt, source.failures.is_raised(), !is_whole);
+        same(&rt, source.reader.moved, TEXT.len().min(until));
     }
     Ok(())
 }
@@ -249,9 +251,13 @@ fn an_interrupted_write_is_tried_again(rt: HostRuntime) -> Result<(), Fail> {
     for (long, until, out) in rows {
         let mut sink = OutputSink::new(Signalled::new(Vec::new(rt.alloc()), until));
         let written = write_all(&mut sink, &TEXT[..long]);
-        assert_eq!(rt; written.is_ok(), out == long, "{long} bytes, until {until}");
-        assert_eq!(rt; sink.writer.bytes.as_slice(), &TEXT[..out]);
-        assert_eq!(rt; sink.failures.is_raised(), out < long);
+        same(
+            &rt,
+            (long, until, written.is_ok()),
+            (long, until, out == long),
+        );
+        same(&rt, sink.writer.bytes.as_slice(), &TEXT[..out]);
+        same(&rt, sink.failures.is_raised(), out < long);
     }
     Ok(())
 }
@@ -266,6 +272,6 @@ fn a_complaint_has_the_number_and_the_name(rt: HostRuntime) {
         (Fault::from(ReadFailed), "calvin: 95 ReadFailed\n"),
         (Fault::from(WriteFailed), "calvin: 96 WriteFailed\n"),
     ] {
-        assert_eq!(rt; complaint(fault).as_str(), line);
+        same(&rt, complaint(fault).as_str(), line);
     }
 }
