@@ -1,4 +1,5 @@
 //! The answers of each operation, in the order of its checks, and what the application says of itself.
+use crate::asserted::{holds, same};
 use crate::requests::{Asked, args_of, first_sets, txn};
 use calvin_app::{Answer, App, Serial, View};
 use calvin_stock::{Stock, StockReply};
@@ -15,7 +16,7 @@ fn ask(
     for i in 0..table.len() {
         let (asked, want) = table[i];
         let answer = serial.apply(&txn(1, &asked)?)?;
-        assert!(rt; answer == Answer::Reply(want), "{answer:?} in row {i}");
+        same(rt, (i, answer), (i, Answer::Reply(want)));
     }
     Ok(())
 }
@@ -97,7 +98,7 @@ fn orders_and_settlements(rt: HostRuntime) -> Result<(), Fail> {
 
     // The last order is another one than is declared.
     let stale = serial.apply(&txn(1, &Asked::SettleOf(9, 51))?)?;
-    assert!(rt; stale == Answer::Changed);
+    holds(&rt, stale == Answer::Changed);
     Ok(())
 }
 
@@ -120,13 +121,13 @@ fn sets_of_requests(rt: HostRuntime) -> Result<(), Fail> {
         writes: KeySet::new(),
     };
     let balance = args_of(&Asked::Balance(9))?;
-    assert!(rt; described(&Stock, &balance) == (6, 3, false, alone));
+    holds(&rt, described(&Stock, &balance) == (6, 3, false, alone));
     let both = Sets {
         reads: customer,
         writes: customer,
     };
     let settle = args_of(&Asked::Settle(9))?;
-    assert!(rt; described(&Stock, &settle) == (6, 3, true, both));
+    holds(&rt, described(&Stock, &settle) == (6, 3, true, both));
     let keys = KeySet::from_slice(&[
         Key { table: 1, id: 9 },
         Key { table: 2, id: 1 },
@@ -134,6 +135,6 @@ fn sets_of_requests(rt: HostRuntime) -> Result<(), Fail> {
         Key { table: 3, id: 50 },
     ])?;
     let sets = first_sets(&args_of(&Asked::OrderTwo(9, 50, (2, 3), (1, 2)))?);
-    assert!(rt; sets.reads == keys && sets.writes == keys);
+    holds(&rt, sets.reads == keys && sets.writes == keys);
     Ok(())
 }

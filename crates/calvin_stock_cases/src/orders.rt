@@ -1,4 +1,5 @@
 //! The worked cases `order_and_settle` and `settle_with_stale_sets`, and the refusals of orders.
+use crate::asserted::{holds, same};
 use crate::requests::{Asked, line, txn};
 use calvin_app::{Answer, Serial};
 use calvin_stock::{
@@ -46,7 +47,7 @@ fn order_and_settle(rt: HostRuntime) -> Result<(), Fail> {
     ] {
         assert!(rt; i < txns.len());
         let answer = serial.apply(&txns[i])?;
-        assert!(rt; answer == Answer::Reply(want), "{answer:?} to request {i}");
+        same(&rt, (i, answer), (i, Answer::Reply(want)));
     }
     Ok(())
 }
@@ -60,9 +61,12 @@ fn is_reply(answers: &[Answer<StockReply>], i: usize, reply: StockReply) -> bool
 fn settle_with_stale_sets(rt: HostRuntime) -> Result<(), Fail> {
     let txns = requests(rt.alloc(), Asked::Settle(9))?;
     let (_rows, answers) = run_on_no_rows(rt.alloc(), &txns)?;
-    assert!(rt; is_reply(&answers, 6, StockReply::Ordered(800)));
-    assert!(rt; answers.get(7).copied() == Some(Answer::Changed));
-    assert!(rt; is_reply(&answers, 8, StockReply::Cents(1_000_000_000_000_000)));
+    holds(&rt, is_reply(&answers, 6, StockReply::Ordered(800)));
+    holds(&rt, answers.get(7).copied() == Some(Answer::Changed));
+    holds(
+        &rt,
+        is_reply(&answers, 8, StockReply::Cents(1_000_000_000_000_000)),
+    );
     Ok(())
 }
 
@@ -84,10 +88,10 @@ fn orders_refused(rt: HostRuntime) -> Result<(), Fail> {
     let lines = [(1, 1), (2, 1), (3, 1), (4, 1), (5, 1)];
     for (count, want) in [(0, 4), (1, 0), (4, 0), (5, 4)] {
         assert!(rt; count <= lines.len());
-        assert_eq!(rt;
-            refused(rt.alloc(), &lines[..count])?,
-            want,
-            "{count} lines"
+        same(
+            &rt,
+            (count, refused(rt.alloc(), &lines[..count])?),
+            (count, want),
         );
     }
 
@@ -100,14 +104,14 @@ fn orders_refused(rt: HostRuntime) -> Result<(), Fail> {
         ((1, 2), (1, 3), 3),
         ((1, 0), (1, 1), 3),
     ] {
-        assert_eq!(rt;
-            refused(rt.alloc(), &[first, second])?,
-            want,
-            "{first:?}, {second:?}"
+        same(
+            &rt,
+            (first, second, refused(rt.alloc(), &[first, second])?),
+            (first, second, want),
         );
     }
     let five = [(1, 1), (2, 1), (3, 1), (4, 1), (1, 1)];
-    assert_eq!(rt; refused(rt.alloc(), &five)?, 3);
+    same(&rt, refused(rt.alloc(), &five)?, 3);
     Ok(())
 }
 
@@ -120,22 +124,22 @@ fn row(rows: &Serial<Stock>, table: u8, id: u64) -> Option<StockRow> {
 fn rows_after_order_and_settle(rt: HostRuntime) -> Result<(), Fail> {
     let txns = requests(rt.alloc(), Asked::SettleOf(9, 50))?;
     let (rows, answers) = run_on_no_rows(rt.alloc(), &txns)?;
-    assert_eq!(rt; answers.len(), 10);
+    same(&rt, answers.len(), 10);
     let customer = Customer {
         balance: 999_999_999_999_200,
         last_order: Some(50),
     };
-    assert!(rt; row(&rows, 1, 9) == Some(StockRow::Customer(customer)));
+    holds(&rt, row(&rows, 1, 9) == Some(StockRow::Customer(customer)));
     let item = Item {
         stock: 0,
         price: 250,
     };
-    assert!(rt; row(&rows, 2, 1) == Some(StockRow::Item(item)));
+    holds(&rt, row(&rows, 2, 1) == Some(StockRow::Item(item)));
     let placed = Placed {
         customer: 9,
         total: 800,
         settled: true,
     };
-    assert!(rt; row(&rows, 3, 50) == Some(StockRow::Order(placed)));
+    holds(&rt, row(&rows, 3, 50) == Some(StockRow::Order(placed)));
     Ok(())
 }
