@@ -1,4 +1,5 @@
 //! The attempts of a request.
+use crate::checks::holds;
 use calvin_app::Answer;
 use calvin_recon::{Issuer, Next};
 use calvin_types::{Fault, Key, KeySet, RequestId, Sets};
@@ -21,22 +22,32 @@ fn issuer_attempts(rt: HostRuntime) -> Result<(), Fail> {
     let changed: Answer<u64> = Answer::Changed;
     let mut issuer = Issuer::first(id, 9u64, reads(1));
     let first = issuer.txn();
-    assert!(rt; first.id == id && first.attempt == 1 && first.args == 9 && first.sets == reads(1));
+    holds(
+        &rt,
+        first.id == id && first.attempt == 1 && first.args == 9 && first.sets == reads(1),
+    );
     for attempt in 2..9u8 {
         let sets = reads(attempt as u64);
         match issuer.after(&changed, sets)? {
             Next::Again(txn) => {
-                assert!(rt;
-                    txn.id == id && txn.attempt == attempt && txn.args == 9 && txn.sets == sets
+                holds(
+                    &rt,
+                    txn.id == id && txn.attempt == attempt && txn.args == 9 && txn.sets == sets,
                 );
-                assert!(rt; issuer.txn() == txn);
+                holds(&rt, issuer.txn() == txn);
             }
             Next::Done => assert!(rt; false, "attempt {attempt}"),
         }
     }
-    assert!(rt; issuer.after(&changed, reads(1)) == Err(Fault::TooManyTries));
-    assert!(rt; Fault::TooManyTries.number() == 70);
-    assert!(rt; issuer.txn().attempt == 8);
-    assert!(rt; issuer.after(&Answer::Reply(4u64), reads(1)) == Ok(Next::Done));
+    holds(
+        &rt,
+        issuer.after(&changed, reads(1)) == Err(Fault::TooManyTries),
+    );
+    holds(&rt, Fault::TooManyTries.number() == 70);
+    holds(&rt, issuer.txn().attempt == 8);
+    holds(
+        &rt,
+        issuer.after(&Answer::Reply(4u64), reads(1)) == Ok(Next::Done),
+    );
     Ok(())
 }

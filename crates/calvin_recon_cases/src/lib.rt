@@ -5,4 +5,6 @@
 #[cfg(test)]
 mod attempts;
 #[cfg(test)]
+mod checks;
+#[cfg(test)]
 mod slide;

@@ -4,6 +4,7 @@ ghost use Rattle.std.proofs.Common.{lit<};
 ghost use Rattle.calvin_app.specs.KvExact.{numbers_exact};
 ghost use Rattle.calvin_recon_cases.specs.Slide.{greatest, slide, slide_lawful};
 
+use crate::checks::holds;
 use calvin_app::{App, Kv, KvRequest, Table, View, Writes};
 use calvin_recon::{scout, settled_sets};
 use calvin_types::{Fault, Key, KeySet, Sets};
@@ -120,9 +121,15 @@ fn reads(ids: &[u64]) -> Result<Sets, Fault> {
 
 #[test]
 fn scout_that_slides(rt: HostRuntime) -> Result<(), Fail> {
-    assert!(rt; scout(&Slide, &0, &rows(rt.alloc(), 5)?) == Ok(reads(&[4, 5])?));
-    assert!(rt; scout(&Slide, &0, &rows(rt.alloc(), 30)?) == Err(Fault::Unsettled));
-    assert!(rt; Fault::Unsettled.number() == 72);
+    holds(
+        &rt,
+        scout(&Slide, &0, &rows(rt.alloc(), 5)?) == Ok(reads(&[4, 5])?),
+    );
+    holds(
+        &rt,
+        scout(&Slide, &0, &rows(rt.alloc(), 30)?) == Err(Fault::Unsettled),
+    );
+    holds(&rt, Fault::Unsettled.number() == 72);
     Ok(())
 }
 
@@ -130,8 +137,17 @@ fn scout_that_slides(rt: HostRuntime) -> Result<(), Fail> {
 fn scout_follows(rt: HostRuntime) -> Result<(), Fail> {
     let mut rows = Table::new(rt.alloc());
     rows.overwrite(&Writes::of(key(1), 5))?;
-    assert!(rt; scout(&Kv, &KvRequest::Follow(1), &rows) == Ok(reads(&[1, 5])?));
-    assert!(rt; scout(&Kv, &KvRequest::Follow(5), &rows) == Ok(reads(&[5])?));
-    assert!(rt; settled_sets(&Kv, &KvRequest::Follow(1), &rows) == reads(&[1, 5])?);
+    holds(
+        &rt,
+        scout(&Kv, &KvRequest::Follow(1), &rows) == Ok(reads(&[1, 5])?),
+    );
+    holds(
+        &rt,
+        scout(&Kv, &KvRequest::Follow(5), &rows) == Ok(reads(&[5])?),
+    );
+    holds(
+        &rt,
+        settled_sets(&Kv, &KvRequest::Follow(1), &rows) == reads(&[1, 5])?,
+    );
     Ok(())
 }
