@@ -2,6 +2,7 @@
 ghost use Rattle.std.specs.Prelude.{◌≡◌, ◌<◌, OnOk, OnErr};
 ghost use Rattle.calvin_app.specs.Stores.{put_at};
 
+use crate::checks::{holds, same};
 use crate::list_rows::ListRows;
 use calvin_app::Writes;
 use calvin_store::{PlainRows, Rows, Snapshot};
@@ -46,11 +47,11 @@ fn seen<S: Rows<u64>>(rows: &S) -> (usize, [Option<u64>; 3]) {
 
 /// Room that is made, and writes of two rows each.
 fn writes_in_turn<S: Rows<u64>>(rt: &impl Abort, rows: &mut S) -> Result<(), Fault> {
-    assert!(rt; seen(rows) == (0, [None, None, None]));
-    assert_eq!(rt; rows.room(), 0);
+    holds(rt, seen(rows) == (0, [None, None, None]));
+    same(rt, rows.room(), 0);
     rows.reserve(3)?;
     rows.reserve(2)?;
-    assert!(rt; rows.room() >= 3);
+    holds(rt, rows.room() >= 3);
     for (first, second, want) in [
         // Both keys are new.
         ((5, 50), (1, 10), (2, [Some(10), Some(50), None])),
@@ -61,7 +62,7 @@ fn writes_in_turn<S: Rows<u64>>(rt: &impl Abort, rows: &mut S) -> Result<(), Fau
     ] {
         let pairs = [(key(first.0), first.1), (key(second.0), second.1)];
         write(rows, &writes(&pairs)?)?;
-        assert!(rt; seen(rows) == want);
+        holds(rt, seen(rows) == want);
     }
     Ok(())
 }
@@ -79,23 +80,23 @@ fn goes_back<S: Rows<u64>>(
     snapshot: &Snapshot<u64>,
 ) -> Result<(), Fault> {
     write(rows, &writes(&[(key(5), 55), (key(6), 60)])?)?;
-    assert!(rt; rows.len() == 5);
-    assert!(rt; !stands_at(rows, snapshot)?);
+    holds(rt, rows.len() == 5);
+    holds(rt, !stands_at(rows, snapshot)?);
     rows.load(snapshot)?;
-    assert!(rt; seen(rows) == (4, [Some(12), Some(51), Some(92)]));
-    assert!(rt; rows.get(&key(6)).is_none());
-    assert!(rt; stands_at(rows, snapshot)?);
+    holds(rt, seen(rows) == (4, [Some(12), Some(51), Some(92)]));
+    holds(rt, rows.get(&key(6)).is_none());
+    holds(rt, stands_at(rows, snapshot)?);
     Ok(())
 }
 
 /// What a snapshot holds: each key with its row, by ascending key, in a copy too.
-fn holds(rt: &impl Abort, snapshot: &Snapshot<u64>) -> Result<(), Fault> {
+fn holds_all(rt: &impl Abort, snapshot: &Snapshot<u64>) -> Result<(), Fault> {
     let other = Key { table: 1, id: 1 };
     let pairs = [(key(1), 12), (key(5), 51), (key(9), 92), (other, 7)];
-    assert!(rt; snapshot.len() == 4);
-    assert!(rt; snapshot.pairs() == pairs.as_slice());
+    holds(rt, snapshot.len() == 4);
+    holds(rt, snapshot.pairs() == pairs.as_slice());
     let copy = snapshot.copy()?;
-    assert!(rt; copy == *snapshot);
+    holds(rt, copy == *snapshot);
     Ok(())
 }
 
@@ -107,9 +108,9 @@ fn each_call<S: Rows<u64> + Drop>(rt: &impl Abort, alloc: Global) -> Result<(), 
     // The same number in another table is another key, behind all of table 0.
     write(&mut rows, &Writes::of(Key { table: 1, id: 1 }, 7))?;
     let snapshot = rows.snapshot()?;
-    holds(rt, &snapshot)?;
+    holds_all(rt, &snapshot)?;
     goes_back(rt, &mut rows, &snapshot)?;
-    holds(rt, &snapshot)
+    holds_all(rt, &snapshot)
 }
 
 #[test]
@@ -203,8 +204,8 @@ fn both_keepers_answer_alike(rt: HostRuntime) -> Result<(), Fail> {
     let alloc = rt.alloc();
     let plain = played::<PlainRows<u64>>(alloc, 3000)?;
     let list = played::<ListRows<u64>>(alloc, 3000)?;
-    assert!(rt; plain.len() > 6000);
-    assert!(rt; plain.as_slice() == list.as_slice());
+    holds(&rt, plain.len() > 6000);
+    holds(&rt, plain.as_slice() == list.as_slice());
     Ok(())
 }
 
@@ -215,11 +216,11 @@ fn leaves_all<S: Rows<u64> + Drop>(rt: &impl Abort, alloc: Global) -> Result<(),
     let other = S::empty(alloc).snapshot()?;
     let before = seen(&rows);
     if let Err(fault) = rows.reserve(40) {
-        assert_eq!(rt; (fault, seen(&rows)), (Fault::OutOfMemory, before));
+        same(rt, (fault, seen(&rows)), (Fault::OutOfMemory, before));
     }
     let before = seen(&rows);
     if let Err(fault) = rows.load(&other) {
-        assert_eq!(rt; (fault, seen(&rows)), (Fault::OutOfMemory, before));
+        same(rt, (fault, seen(&rows)), (Fault::OutOfMemory, before));
     }
     Ok(())
 }
@@ -247,7 +248,7 @@ fn a_snapshot_crosses_threads(rt: HostRuntime) -> Result<(), Fail> {
     let mut rows: PlainRows<u64> = Rows::empty(rt.alloc());
     write(&mut rows, &Writes::of(key(3), 30))?;
     let snapshot = rows.snapshot()?;
-    assert_eq!(rt; goes_along(rt, snapshot.copy()?)?, 1);
-    assert_eq!(rt; snapshot.len(), 1);
+    same(&rt, goes_along(rt, snapshot.copy()?)?, 1);
+    same(&rt, snapshot.len(), 1);
     Ok(())
 }
