@@ -4,9 +4,10 @@ ghost use Rattle.std.proofs.Common.{lit<};
 ghost use Rattle.calvin_app.specs.KvExact.{numbers_exact};
 ghost use Rattle.calvin_app_cases.specs.Forward.{named, forward, forward_lawful};
 
+use crate::checks::{holds, same};
 use crate::kv::{described, key, set, txn};
 use calvin_app::{Answer, App, Serial, View, Writes};
-use calvin_types::{Key, KeySet, Sets};
+use calvin_types::{Fault, Key, KeySet, Sets};
 use std::test::Fail;
 
 /// The request `a` reads the row of the key `a`, which is the number of another key. It tells the row under that key
@@ -78,6 +79,25 @@ impl App for Forward {
     ghost replies_exact = { numbers_exact };
 }
 
+/// What a request with these sets is told, or nothing where it is answered `Changed`, and the rows of 0, 3 and 5
+/// after it.
+fn forwarded(
+    serial: &mut Serial<Forward>,
+    args: u64,
+    reads: &[u64],
+    writes: &[u64],
+) -> Result<(Option<u64>, [Option<u64>; 3]), Fault> {
+    let told = match serial.apply(&txn(args, set(reads)?, set(writes)?))? {
+        Answer::Reply(reply) => Some(reply),
+        Answer::Changed => None,
+    };
+    let rows = serial.rows();
+    Ok((
+        told,
+        [rows.get(&key(0)), rows.get(&key(3)), rows.get(&key(5))],
+    ))
+}
+
 #[test]
 fn rows_forwarded(rt: HostRuntime) -> Result<(), Fail> {
     let mut serial = Serial::new(rt.alloc(), Forward);
@@ -101,15 +121,12 @@ fn rows_forwarded(rt: HostRuntime) -> Result<(), Fail> {
         (3, &[0, 3], &[0, 3], None, [Some(5), Some(0), Some(0)]),
         (3, &[0, 3], &[0], Some(5), [Some(3), Some(0), Some(0)]),
     ] {
-        let want = match told {
-            Some(reply) => Answer::Reply(reply),
-            None => Answer::Changed,
-        };
-        let answer = serial.apply(&txn(args, set(reads)?, set(writes)?))?;
-        assert!(rt; answer == want, "{args} with {reads:?} and {writes:?}");
-        for (id, row) in [0, 3, 5].into_iter().zip(rows) {
-            assert_eq!(rt; serial.rows().get(&key(id)), row);
-        }
+        let found = forwarded(&mut serial, args, reads, writes)?;
+        same(
+            &rt,
+            (args, reads, writes, found),
+            (args, reads, writes, (told, rows)),
+        );
     }
     Ok(())
 }
@@ -120,6 +137,6 @@ fn what_forward_says_of_itself(rt: HostRuntime) -> Result<(), Fail> {
         reads: set(&[0, 3])?,
         writes: set(&[0])?,
     };
-    assert!(rt; described(&Forward, &3) == (2, 0, true, sets));
+    holds(&rt, described(&Forward, &3) == (2, 0, true, sets));
     Ok(())
 }

@@ -2,9 +2,11 @@
 //! `follow_in_serial`.
 ghost use Rattle.std.specs.Prelude.{◌≡◌};
 
+use crate::checks::{holds, same};
 use calvin_app::{Answer, App, Kv, KvReply, KvRequest, Serial, Table, View, Writes};
 use calvin_types::{Fault, Few, Key, KeySet, RequestId, Sets, Txn};
 use std::alloc::Global;
+use std::process::Abort;
 use std::test::Fail;
 
 /// A key of table 0.
@@ -129,7 +131,7 @@ fn puts_and_adds(rt: HostRuntime) -> Result<(), Fail> {
         KvReply::Value(u64::MAX),
         KvReply::Limit,
     ];
-    assert!(rt; are_told(rt.alloc(), &asked, &want)?);
+    holds(&rt, are_told(rt.alloc(), &asked, &want)?);
     Ok(())
 }
 
@@ -144,7 +146,7 @@ fn rows_after_a_limit(rt: HostRuntime) -> Result<(), Fail> {
     let txns = all_declared(alloc, &asked)?;
     let (serial, _answers) = applied(alloc, Kv, &txns)?;
     for (id, want) in [(3, Some(5)), (4, Some(u64::MAX)), (1, None)] {
-        assert_eq!(rt; serial.rows().get(&key(id)), want);
+        same(&rt, serial.rows().get(&key(id)), want);
     }
     Ok(())
 }
@@ -170,7 +172,7 @@ fn gets(rt: HostRuntime) -> Result<(), Fail> {
         KvReply::Values(values),
         KvReply::Values(Few::new()),
     ];
-    assert!(rt; are_told(rt.alloc(), &asked, &want)?);
+    holds(&rt, are_told(rt.alloc(), &asked, &want)?);
     Ok(())
 }
 
@@ -239,11 +241,12 @@ fn moves(rt: HostRuntime) -> Result<(), Fail> {
         (4, 0, KvReply::Done, [None; 2], [Some(0); 2]),
     ] {
         let (answer, rows) = moved(rt.alloc(), to, amount, before)?;
-        assert!(rt;
-            is_reply(&answer, reply),
-            "{amount} to {to} with {before:?}"
+        let want = Answer::Reply(reply);
+        same(
+            &rt,
+            (amount, to, before, answer, rows),
+            (amount, to, before, want, after),
         );
-        assert_eq!(rt; rows, after, "{amount} to {to} with {before:?}");
     }
     Ok(())
 }
@@ -267,7 +270,7 @@ fn follow_in_serial(rt: HostRuntime) -> Result<(), Fail> {
         // The row of 3 names 4 now, which isn't declared.
         Answer::Changed,
     ];
-    assert_eq!(rt; answers.as_slice(), want.as_slice());
+    same(&rt, answers.as_slice(), want.as_slice());
     Ok(())
 }
 
@@ -295,9 +298,9 @@ fn kv_runs(rt: HostRuntime) -> Result<(), Fail> {
     let mut view = View::new();
     table.look_up(&set(&[3])?, &mut view);
     let (reply, writes) = Kv.run(&KvRequest::Add(3, 5), &view);
-    assert_eq!(rt; reply, KvReply::Value(15));
+    same(&rt, reply, KvReply::Value(15));
     assert_eq!(rt; writes.len(), 1);
-    assert!(rt; writes.at(0) == (key(3), 15));
+    holds(&rt, writes.at(0) == (key(3), 15));
     Ok(())
 }
 
@@ -337,9 +340,10 @@ fn stale_sets(rt: HostRuntime) -> Result<(), Fail> {
         (KvRequest::Follow(3), &[3, 10], &[3], true, 10),
     ] {
         let after = after_put(rt.alloc(), args, reads, writes)?;
-        assert!(rt;
-            after == (changed, [Some(row), None, None]),
-            "{args:?} with {reads:?} and {writes:?}"
+        same(
+            &rt,
+            (args, reads, writes, after),
+            (args, reads, writes, (changed, [Some(row), None, None])),
         );
     }
     Ok(())
@@ -361,37 +365,57 @@ fn what_kv_says_of_itself(rt: HostRuntime) -> Result<(), Fail> {
             reads: set(reads)?,
             writes: set(writes)?,
         };
-        assert!(rt;
-            described(&Kv, &args) == (16, 0, dependent, sets),
-            "{args:?}"
+        same(
+            &rt,
+            (args, described(&Kv, &args)),
+            (args, (16, 0, dependent, sets)),
         );
+    }
+    Ok(())
+}
+
+/// Requests applied one by one, each into the places that the one before it has filled.
+fn told_in_place(
+    rt: &impl Abort,
+    alloc: Global,
+    asked: &[(Txn<KvRequest>, Answer<KvReply>)],
+) -> Result<(), Fault> {
+    let mut serial = Serial::new(alloc, Kv);
+    let mut seen = View::new();
+    let mut answer = Answer::Changed;
+    let mut writes = Writes::new();
+    for (txn, want) in asked {
+        serial.apply_into(txn, &mut seen, &mut answer, &mut writes)?;
+        same(rt, (txn.args, answer), (txn.args, *want));
     }
     Ok(())
 }
 
 #[test]
 fn places_used_again(rt: HostRuntime) -> Result<(), Fail> {
-    let mut serial = Serial::new(rt.alloc(), Kv);
-    let mut seen = View::new();
-    let mut answer = Answer::Changed;
-    let mut writes = Writes::new();
     let mut values = Few::new();
     values.push(Some(15));
     values.push(None);
-    for (args, want) in [
-        (KvRequest::Put(3, 10), KvReply::Done),
-        (KvRequest::Add(3, 5), KvReply::Value(15)),
-        (KvRequest::Get(set(&[3, 4])?), KvReply::Values(values)),
-        (KvRequest::Add(3, u64::MAX), KvReply::Limit),
-        (KvRequest::Get(set(&[3, 4])?), KvReply::Values(values)),
-        (KvRequest::Put(3, 0), KvReply::Done),
-    ] {
-        serial.apply_into(&declared(args), &mut seen, &mut answer, &mut writes)?;
-        assert!(rt; is_reply(&answer, want), "{args:?}");
-    }
-    let stale = txn(KvRequest::Add(3, 1), set(&[5])?, set(&[5])?);
-    serial.apply_into(&stale, &mut seen, &mut answer, &mut writes)?;
-    assert!(rt; answer == Answer::Changed);
+    let done = Answer::Reply(KvReply::Done);
+    let both = declared(KvRequest::Get(set(&[3, 4])?));
+    let both_told = Answer::Reply(KvReply::Values(values));
+    let five = set(&[5])?;
+    let asked = [
+        (declared(KvRequest::Put(3, 10)), done),
+        (
+            declared(KvRequest::Add(3, 5)),
+            Answer::Reply(KvReply::Value(15)),
+        ),
+        (both, both_told),
+        (
+            declared(KvRequest::Add(3, u64::MAX)),
+            Answer::Reply(KvReply::Limit),
+        ),
+        (both, both_told),
+        (declared(KvRequest::Put(3, 0)), done),
+        (txn(KvRequest::Add(3, 1), five, five), Answer::Changed),
+    ];
+    told_in_place(&rt, rt.alloc(), &asked)?;
     Ok(())
 }
 
@@ -419,8 +443,8 @@ fn put_twice(serial: &mut Serial<Kv>, id: u64) -> Result<bool, Fault> {
 fn refused_apply_changes_nothing(rt: HostRuntime) -> Result<(), Fail> {
     let mut serial = Serial::new(rt.alloc(), Kv);
     for id in 0..40u64 {
-        assert!(rt; !put_twice(&mut serial, id)?, "refused at {id}");
-        assert!(rt; has_put(&serial, id + 1), "after {id}");
+        same(&rt, (id, put_twice(&mut serial, id)?), (id, false));
+        same(&rt, (id, has_put(&serial, id + 1)), (id, true));
     }
     Ok(())
 }

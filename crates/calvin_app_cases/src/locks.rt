@@ -1,5 +1,6 @@
 //! The worked cases, each public call once, and tables of drawn calls, all for any lock manager: for `ListLocks`, for
 //! `QueueLocks`, and for one that searches its list from the end.
+use crate::checks::same;
 use crate::kv::set;
 use crate::last_first::LastFirst;
 use calvin_lock::{ListLocks, Locks, QueueLocks, oldest_is_ready, ready_stays};
@@ -30,7 +31,7 @@ fn request<L: Locks>(locks: &mut L, n: u32, reads: &[u64], writes: &[u64]) -> Re
 /// Compares which of the first four places are ready.
 fn ready(rt: &impl Abort, locks: &impl Locks, expected: [bool; 4]) {
     for n in 0..4 {
-        assert_eq!(rt; locks.is_ready(place(n)), expected[n as usize], "at {n}");
+        same(rt, (n, locks.is_ready(place(n))), (n, expected[n as usize]));
     }
 }
 
@@ -44,19 +45,19 @@ fn in_sequence<L: Locks + Drop>(rt: &impl Abort, alloc: Global) -> Result<(), Fa
         (2, none, key),
         (3, key, none),
     ] {
-        assert_eq!(rt; request(&mut locks, n, reads, writes)?, 0);
+        same(rt, request(&mut locks, n, reads, writes)?, 0);
     }
     ready(rt, &locks, [true, true, false, false]);
-    assert_eq!(rt; number(locks.release(place(3)))?, 12);
-    assert_eq!(rt; number(locks.release(place(0)))?, 0);
+    same(rt, number(locks.release(place(3)))?, 12);
+    same(rt, number(locks.release(place(0)))?, 0);
     ready(rt, &locks, [false, true, false, false]);
-    assert_eq!(rt; number(locks.release(place(3)))?, 12);
-    assert_eq!(rt; number(locks.release(place(1)))?, 0);
+    same(rt, number(locks.release(place(3)))?, 12);
+    same(rt, number(locks.release(place(1)))?, 0);
     ready(rt, &locks, [false, false, true, false]);
-    assert_eq!(rt; number(locks.release(place(3)))?, 12);
-    assert_eq!(rt; number(locks.release(place(2)))?, 0);
+    same(rt, number(locks.release(place(3)))?, 12);
+    same(rt, number(locks.release(place(2)))?, 0);
     ready(rt, &locks, [false, false, false, true]);
-    assert_eq!(rt; number(locks.release(place(3)))?, 0);
+    same(rt, number(locks.release(place(3)))?, 0);
     ready(rt, &locks, [false; 4]);
     Ok(())
 }
@@ -74,17 +75,17 @@ fn queried<L: Locks + Drop>(rt: &impl Abort, alloc: Global) -> Result<(), Fault>
     let mut locks = L::empty(alloc);
     let (a, b, c, none): (&[u64], &[u64], &[u64], &[u64]) = (&[1], &[2], &[3], &[]);
     for (n, reads, writes) in [(0, a, b), (1, b, none), (2, none, a), (3, c, none)] {
-        assert_eq!(rt; request(&mut locks, n, reads, writes)?, 0);
+        same(rt, request(&mut locks, n, reads, writes)?, 0);
     }
-    assert_eq!(rt; locks.first_ready(None), Some(place(0)));
-    assert_eq!(rt; locks.first_ready(Some(place(0))), Some(place(3)));
-    assert_eq!(rt; number(locks.release(place(3)))?, 0);
-    assert_eq!(rt; number(locks.release(place(3)))?, 12);
-    assert_eq!(rt; number(locks.release(place(0)))?, 0);
+    same(rt, locks.first_ready(None), Some(place(0)));
+    same(rt, locks.first_ready(Some(place(0))), Some(place(3)));
+    same(rt, number(locks.release(place(3)))?, 0);
+    same(rt, number(locks.release(place(3)))?, 12);
+    same(rt, number(locks.release(place(0)))?, 0);
     ready(rt, &locks, [false, true, true, false]);
-    assert_eq!(rt; request(&mut locks, 3, &[1], &[])?, 10);
-    assert_eq!(rt; locks.first_ready(Some(place(1))), Some(place(2)));
-    assert_eq!(rt; locks.first_ready(Some(place(2))), None);
+    same(rt, request(&mut locks, 3, &[1], &[])?, 10);
+    same(rt, locks.first_ready(Some(place(1))), Some(place(2)));
+    same(rt, locks.first_ready(Some(place(2))), None);
     Ok(())
 }
 
@@ -99,23 +100,23 @@ fn lock_queries(rt: HostRuntime) -> Result<(), Fail> {
 /// Each call with ample memory, and each refusal but that for want of memory.
 fn called<L: Locks + Drop>(rt: &impl Abort, alloc: Global) -> Result<(), Fault> {
     let mut locks = L::empty(alloc);
-    assert_eq!(rt; locks.first_ready(None), None);
-    assert_eq!(rt; locks.is_ready(place(0)), false);
-    assert_eq!(rt; number(locks.release(place(0)))?, 12);
-    assert_eq!(rt; request(&mut locks, 4, &[], &[])?, 11);
-    assert_eq!(rt; request(&mut locks, 4, &[1, 2], &[2])?, 0);
-    assert_eq!(rt; request(&mut locks, 4, &[], &[])?, 10);
-    assert_eq!(rt; request(&mut locks, 3, &[9], &[])?, 10);
-    assert_eq!(rt; request(&mut locks, 5, &[2], &[])?, 0);
-    assert_eq!(rt; locks.is_ready(place(4)), true);
-    assert_eq!(rt; locks.is_ready(place(5)), false);
+    same(rt, locks.first_ready(None), None);
+    same(rt, locks.is_ready(place(0)), false);
+    same(rt, number(locks.release(place(0)))?, 12);
+    same(rt, request(&mut locks, 4, &[], &[])?, 11);
+    same(rt, request(&mut locks, 4, &[1, 2], &[2])?, 0);
+    same(rt, request(&mut locks, 4, &[], &[])?, 10);
+    same(rt, request(&mut locks, 3, &[9], &[])?, 10);
+    same(rt, request(&mut locks, 5, &[2], &[])?, 0);
+    same(rt, locks.is_ready(place(4)), true);
+    same(rt, locks.is_ready(place(5)), false);
     locks.up_to_last();
     oldest_is_ready(&locks);
     ready_stays(&locks);
-    assert_eq!(rt; locks.first_ready(None), Some(place(4)));
-    assert_eq!(rt; number(locks.release(place(4)))?, 0);
-    assert_eq!(rt; request(&mut locks, 4, &[1], &[])?, 10);
-    assert_eq!(rt; locks.first_ready(None), Some(place(5)));
+    same(rt, locks.first_ready(None), Some(place(4)));
+    same(rt, number(locks.release(place(4)))?, 0);
+    same(rt, request(&mut locks, 4, &[1], &[])?, 10);
+    same(rt, locks.first_ready(None), Some(place(5)));
     Ok(())
 }
 
@@ -132,11 +133,11 @@ fn refused<L: Locks + Drop>(rt: &impl Abort, alloc: Global) -> Result<(), Fault>
     let mut locks = L::empty(alloc);
     for n in 0..20 {
         if let Err(fault) = request(&mut locks, n, &[7], &[]) {
-            assert_eq!(rt; fault.number(), 1);
-            assert_eq!(rt; locks.is_ready(place(n)), false);
-            assert_eq!(rt; request(&mut locks, n, &[7], &[])?, 0);
+            same(rt, fault.number(), 1);
+            same(rt, locks.is_ready(place(n)), false);
+            same(rt, request(&mut locks, n, &[7], &[])?, 0);
         }
-        assert_eq!(rt; locks.is_ready(place(n)), true);
+        same(rt, locks.is_ready(place(n)), true);
     }
     Ok(())
 }
@@ -222,7 +223,7 @@ fn drawn_calls_agree(rt: HostRuntime) -> Result<(), Fail> {
     for start in 1..21 {
         let answers = drawn::<ListLocks>(rt.alloc(), start, 400)?;
         let others = drawn::<LastFirst>(rt.alloc(), start, 400)?;
-        assert_eq!(rt; answers.as_slice(), others.as_slice());
+        same(&rt, answers.as_slice(), others.as_slice());
         for wanted in [
             Answer::Number(0),
             Answer::Number(10),
@@ -232,7 +233,11 @@ fn drawn_calls_agree(rt: HostRuntime) -> Result<(), Fail> {
             Answer::Ready(false),
             Answer::First(None),
         ] {
-            assert!(rt; answers.as_slice().contains(&wanted), "{wanted:?}");
+            same(
+                &rt,
+                (wanted, answers.as_slice().contains(&wanted)),
+                (wanted, true),
+            );
         }
     }
     Ok(())
@@ -243,7 +248,7 @@ fn keepers_agree(rt: HostRuntime) -> Result<(), Fail> {
     for start in 1..21 {
         let answers = drawn::<ListLocks>(rt.alloc(), start, 2_000)?;
         let others = drawn::<QueueLocks>(rt.alloc(), start, 2_000)?;
-        assert_eq!(rt; answers.as_slice(), others.as_slice());
+        same(&rt, answers.as_slice(), others.as_slice());
     }
     Ok(())
 }
@@ -282,7 +287,7 @@ fn keepers_agree_on_many(rt: HostRuntime) -> Result<(), Fail> {
     for start in 1..4 {
         let answers = crowded::<ListLocks>(rt.alloc(), start, 3_000)?;
         let others = crowded::<QueueLocks>(rt.alloc(), start, 3_000)?;
-        assert_eq!(rt; answers.as_slice(), others.as_slice());
+        same(&rt, answers.as_slice(), others.as_slice());
     }
     Ok(())
 }

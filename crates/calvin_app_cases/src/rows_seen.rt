@@ -1,4 +1,5 @@
 //! What holds rows: tables, views, writes and jobs.
+use crate::checks::{holds, same};
 use crate::kv::{declared, key, set, txn};
 use calvin_app::{Answer, Job, Kv, KvReply, KvRequest, Table, View, Writes};
 use calvin_types::{Fault, Key, KeySet, Place};
@@ -21,8 +22,8 @@ fn tables(rt: HostRuntime) -> Result<(), Fail> {
         (key(1), Some(10), None),
         (other, Some(15), None),
     ] {
-        assert_eq!(rt; table.get(&key), row);
-        assert_eq!(rt; view.get(&key), seen);
+        same(&rt, table.get(&key), row);
+        same(&rt, view.get(&key), seen);
     }
     Ok(())
 }
@@ -33,13 +34,13 @@ fn views(rt: HostRuntime) -> Result<(), Fail> {
     table.overwrite(&Writes::of(key(5), 4))?;
     let mut view = View::new();
     table.look_up(&set(&[3, 5])?, &mut view);
-    assert_eq!(rt; view.clone()?.get(&key(5)), Some(4));
-    assert_eq!(rt; view.get(&key(3)), None);
+    same(&rt, view.clone()?.get(&key(5)), Some(4));
+    same(&rt, view.get(&key(3)), None);
     let none: View<u64> = View::new();
-    assert_eq!(rt; none.get(&key(5)), None);
+    same(&rt, none.get(&key(5)), None);
     view.clear();
-    assert_eq!(rt; view.get(&key(5)), None);
-    assert_eq!(rt; view.len(), 0);
+    same(&rt, view.get(&key(5)), None);
+    same(&rt, view.len(), 0);
     Ok(())
 }
 
@@ -62,16 +63,20 @@ fn views_compared(rt: HostRuntime) -> Result<(), Fail> {
     let view = view_of(alloc, &[(9, 90), (2, 20)])?;
     for (i, id) in [(0, 2), (1, 9)] {
         assert!(rt; i < view.len());
-        assert!(rt; view.at(i) == (key(id), id * 10));
+        holds(&rt, view.at(i) == (key(id), id * 10));
     }
-    for (other, same) in [
+    for (other, is_same) in [
         ([(2, 20), (9, 90)].as_slice(), true),
         (&[(2, 20)], false),
         (&[(2, 20), (9, 91)], false),
         (&[(2, 20), (8, 90)], false),
         (&[], false),
     ] {
-        assert!(rt; view.is_same(&view_of(alloc, other)?) == same, "{other:?}");
+        same(
+            &rt,
+            (other, view.is_same(&view_of(alloc, other)?)),
+            (other, is_same),
+        );
     }
     Ok(())
 }
@@ -87,10 +92,10 @@ fn jobs_computed(rt: HostRuntime) -> Result<(), Fail> {
         (stale, Answer::Changed, 0),
     ] {
         let work = Job { place, txn, view }.compute(&Kv);
-        assert!(rt; work.answer == answer);
-        assert_eq!(rt; work.writes.len(), written);
-        assert!(rt; work.job.place == place && work.job.txn == txn);
-        assert!(rt; work.job.view.is_same(&view));
+        holds(&rt, work.answer == answer);
+        same(&rt, work.writes.len(), written);
+        holds(&rt, work.job.place == place && work.job.txn == txn);
+        holds(&rt, work.job.view.is_same(&view));
     }
     Ok(())
 }
@@ -117,7 +122,7 @@ fn views_from_a_place_on(rt: HostRuntime) -> Result<(), Fail> {
             } else {
                 None
             };
-            assert_eq!(rt; view.get_from(place, &key(id)), row);
+            same(&rt, view.get_from(place, &key(id)), row);
         }
     }
     Ok(())
@@ -136,11 +141,11 @@ fn sixteen() -> Result<Writes<u64>, Fault> {
 fn sixteen_writes(rt: HostRuntime) -> Result<(), Fail> {
     let mut writes = sixteen()?;
     writes.put(key(15), 90)?;
-    assert_eq!(rt; writes.put(key(16), 1), Err(Fault::TooManyKeys));
-    assert_eq!(rt; writes.len(), 16);
+    same(&rt, writes.put(key(16), 1), Err(Fault::TooManyKeys));
+    same(&rt, writes.len(), 16);
     for (i, id, row) in [(0, 15, 90), (1, 14, 1), (14, 1, 14), (15, 0, 15)] {
         assert!(rt; i < writes.len());
-        assert!(rt; writes.at(i) == (key(id), row), "write {i}");
+        same(&rt, (i, writes.at(i)), (i, (key(id), row)));
     }
     Ok(())
 }
