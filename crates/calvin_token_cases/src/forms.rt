@@ -1,4 +1,5 @@
 //! Which forms of a script are read in the usual way.
+use crate::checks::{holds, same};
 use calvin_app::KvRequest;
 use calvin_script::Kept;
 use calvin_tokens::{Scratch, script_from, usual_script};
@@ -30,10 +31,14 @@ fn scripts_of_any_order(rt: HostRuntime) {
         r#"{"partitions":2,"app":"kv","epochs":[[{"txns":[],"group":0},{"group":1,"txns":[]}],[]]}"#,
         r#"{"partitions":2,"app":"kv","epochs":[[{"group":1,"txns":[],"group":0}]]}"#,
     ] {
-        assert!(rt; is_usual(rt.alloc(), text), "{text}");
-        assert!(rt;
-            script_from::<KvRequest>(rt.alloc(), text.as_bytes()).is_ok(),
-            "{text}"
+        same(&rt, (text, is_usual(rt.alloc(), text)), (text, true));
+        same(
+            &rt,
+            (
+                text,
+                script_from::<KvRequest>(rt.alloc(), text.as_bytes()).is_ok(),
+            ),
+            (text, true),
         );
     }
 }
@@ -50,7 +55,11 @@ fn requests_of_any_order(rt: HostRuntime) -> Result<(), Fail> {
         r#"{"client":7,"client":8,"number":1,"op":["put",1,5],"op":["add",2,6]}"#,
     ] {
         let text = with_request(rt.alloc(), request)?;
-        assert!(rt; is_usual(rt.alloc(), text.as_str()), "{request}");
+        same(
+            &rt,
+            (request, is_usual(rt.alloc(), text.as_str())),
+            (request, true),
+        );
     }
     Ok(())
 }
@@ -65,9 +74,13 @@ fn unusual_requests(rt: HostRuntime) -> Result<(), Fail> {
         r#"{"client":7,"number":1,"op":["move",1,5],"op":["put",1,5]}"#,
     ] {
         let text = with_request(rt.alloc(), request)?;
-        assert!(rt; !is_usual(rt.alloc(), text.as_str()), "{request}");
+        same(
+            &rt,
+            (request, is_usual(rt.alloc(), text.as_str())),
+            (request, false),
+        );
         let script = script_from::<KvRequest>(rt.alloc(), text.as_bytes())?;
-        assert!(rt; script.epochs.len() == 1, "{request}");
+        same(&rt, (request, script.epochs.len()), (request, 1));
     }
     Ok(())
 }
@@ -106,11 +119,9 @@ fn refused_scripts(rt: HostRuntime) -> Result<(), Fail> {
             Fault::BadScript,
         ),
     ] {
-        assert!(rt; !is_usual(rt.alloc(), text), "{text}");
-        match script_from::<KvRequest>(rt.alloc(), text.as_bytes()) {
-            Ok(_script) => assert!(rt; false, "{text} is taken"),
-            Err(fault) => assert_eq!(rt; fault, want, "{text}"),
-        }
+        same(&rt, (text, is_usual(rt.alloc(), text)), (text, false));
+        let fault = script_from::<KvRequest>(rt.alloc(), text.as_bytes()).err();
+        same(&rt, (text, fault), (text, Some(want)));
     }
     Ok(())
 }
@@ -133,12 +144,12 @@ fn a_request_as_it_is_written(rt: HostRuntime) -> Result<(), Fail> {
     match requests.get(0) {
         Some(request) => {
             let txn = request.txn();
-            assert!(rt; request.is_declared() && txn.attempt == 3);
-            assert!(rt; txn.id.client == 7 && txn.id.number == 2);
-            assert!(rt; txn.args == KvRequest::Add(1, 5));
-            assert!(rt; txn.sets.reads.len() == 2 && txn.sets.writes.len() == 1);
+            holds(&rt, request.is_declared() && txn.attempt == 3);
+            holds(&rt, txn.id.client == 7 && txn.id.number == 2);
+            holds(&rt, txn.args == KvRequest::Add(1, 5));
+            holds(&rt, txn.sets.reads.len() == 2 && txn.sets.writes.len() == 1);
         }
-        None => assert!(rt; false, "no request"),
+        None => holds(&rt, false),
     }
     Ok(())
 }

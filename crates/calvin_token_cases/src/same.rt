@@ -1,4 +1,5 @@
 //! Both ways read the same: drawn scripts, and such scripts with a few bytes changed.
+use crate::checks::same;
 use crate::scripts::{draw, script};
 use calvin_app::KvRequest;
 use calvin_script::{AppName, Epoch, GroupBatch, Kept, Script};
@@ -70,16 +71,16 @@ fn compare<Op: OperationTokens + Eq>(rt: &impl Abort, alloc: Global, bytes: &[u8
     let there = calvin_script::script_from::<Op>(alloc, bytes);
     match (&here, &there) {
         (Ok(one), Ok(other)) => {
-            assert!(rt; is_same(one, other), "{bytes:?}");
+            same(rt, (bytes, is_same(one, other)), (bytes, true));
             if let Some(script) = &usual {
-                assert!(rt; is_same(script, other), "{bytes:?}");
+                same(rt, (bytes, is_same(script, other)), (bytes, true));
             }
         }
         (Err(one), Err(other)) => {
-            assert_eq!(rt; *one, *other, "{bytes:?}");
-            assert!(rt; usual.is_none(), "{bytes:?}");
+            same(rt, (bytes, *one), (bytes, *other));
+            same(rt, (bytes, usual.is_none()), (bytes, true));
         }
-        _ => assert!(rt; false, "{bytes:?}"),
+        _ => same(rt, (bytes, here.is_ok()), (bytes, there.is_ok())),
     }
     (usual.is_some(), here.is_ok())
 }
@@ -92,11 +93,11 @@ fn compare_by(rt: &impl Abort, alloc: Global, app: AppName, bytes: &[u8]) -> (bo
     );
     match app {
         AppName::Kv => {
-            assert_eq!(rt; stock, (false, false), "{bytes:?}");
+            same(rt, (bytes, stock), (bytes, (false, false)));
             kv
         }
         AppName::Stock => {
-            assert_eq!(rt; kv, (false, false), "{bytes:?}");
+            same(rt, (bytes, kv), (bytes, (false, false)));
             stock
         }
     }
@@ -109,7 +110,7 @@ fn drawn_scripts_are_usual(rt: HostRuntime) -> Result<(), Fail> {
         for _ in 0..200usize {
             let text = script(&mut generator, rt.alloc(), app)?;
             let found = compare_by(&rt, rt.alloc(), app, text.as_bytes());
-            assert!(rt; found == (true, true), "{text}");
+            same(&rt, (text.as_str(), found), (text.as_str(), (true, true)));
         }
     }
     Ok(())
@@ -160,9 +161,11 @@ fn changed_scripts(rt: HostRuntime) -> Result<(), Fail> {
                 all = all.wrapping_add(1);
             }
         }
-        assert!(rt;
-            100 < usual && usual <= scripts && scripts < all,
-            "{usual} of {scripts} of {all}"
+        let is_so = 100 < usual && usual <= scripts && scripts < all;
+        same(
+            &rt,
+            (usual, scripts, all, is_so),
+            (usual, scripts, all, true),
         );
     }
     Ok(())

@@ -1,4 +1,5 @@
 //! Which operations of the application Stock are read in the usual way.
+use crate::checks::same;
 use calvin_script::Kept;
 use calvin_stock::{Line, Order, StockRequest};
 use calvin_tokens::{Scratch, script_from, usual_script};
@@ -89,10 +90,8 @@ fn each_operation(rt: HostRuntime) -> Result<(), Fail> {
             StockRequest::Order(shortest),
         ),
     ] {
-        match usual_operation(rt.alloc(), operation)? {
-            Some(found) => assert_eq!(rt; found, wanted, "{operation}"),
-            None => assert!(rt; false, "{operation} isn't read"),
-        }
+        let found = usual_operation(rt.alloc(), operation)?;
+        same(&rt, (operation, found), (operation, Some(wanted)));
     }
     Ok(())
 }
@@ -123,15 +122,11 @@ fn no_operations(rt: HostRuntime) -> Result<(), Fail> {
         r#"["put",1,2]"#,
         r#"[]"#,
     ] {
-        assert!(rt;
-            usual_operation(rt.alloc(), operation)?.is_none(),
-            "{operation}"
-        );
+        let usual = usual_operation(rt.alloc(), operation)?;
+        same(&rt, (operation, usual), (operation, None));
         let text = with_operation(rt.alloc(), operation)?;
-        match script_from::<StockRequest>(rt.alloc(), text.as_bytes()) {
-            Ok(_script) => assert!(rt; false, "{operation} is taken"),
-            Err(fault) => assert_eq!(rt; fault, Fault::BadScript, "{operation}"),
-        }
+        let fault = script_from::<StockRequest>(rt.alloc(), text.as_bytes()).err();
+        same(&rt, (operation, fault), (operation, Some(Fault::BadScript)));
     }
     Ok(())
 }
