@@ -1,4 +1,5 @@
 //! Which bytes are scripts.
+use crate::checks::same;
 use calvin_app::KvRequest;
 use calvin_script::{AppName, Document, script_from};
 use calvin_types::Fault;
@@ -73,10 +74,10 @@ fn bytes_that_are_no_json(rt: HostRuntime) {
         b"\xff",
     ];
     for bytes in table {
-        assert_eq!(rt;
-            fault_of(rt.alloc(), bytes),
-            Some(Fault::BadJson),
-            "{bytes:?}"
+        same(
+            &rt,
+            (bytes, fault_of(rt.alloc(), bytes)),
+            (bytes, Some(Fault::BadJson)),
         );
     }
 }
@@ -91,10 +92,10 @@ fn nesting(rt: HostRuntime) -> Result<(), Fail> {
         for _ in 0..depth {
             text.push_str("]")?;
         }
-        assert_eq!(rt;
-            fault_of(rt.alloc(), text.as_bytes()),
-            Some(fault),
-            "{depth}"
+        same(
+            &rt,
+            (depth, fault_of(rt.alloc(), text.as_bytes())),
+            (depth, Some(fault)),
         );
     }
     Ok(())
@@ -139,7 +140,11 @@ fn scripts(rt: HostRuntime) {
         ("1", bad),
     ];
     for (text, fault) in table {
-        assert_eq!(rt; fault_of(rt.alloc(), text.as_bytes()), fault, "{text}");
+        same(
+            &rt,
+            (text, fault_of(rt.alloc(), text.as_bytes())),
+            (text, fault),
+        );
     }
 }
 
@@ -170,7 +175,11 @@ fn batches(rt: HostRuntime) -> Result<(), Fail> {
     ];
     for (text, fault) in table {
         let script = with_batches(rt.alloc(), text)?;
-        assert_eq!(rt; fault_of(rt.alloc(), script.as_bytes()), fault, "{text}");
+        same(
+            &rt,
+            (text, fault_of(rt.alloc(), script.as_bytes())),
+            (text, fault),
+        );
     }
     Ok(())
 }
@@ -208,7 +217,11 @@ fn requests(rt: HostRuntime) -> Result<(), Fail> {
     ];
     for (text, fault) in table {
         let script = with_request(rt.alloc(), text)?;
-        assert_eq!(rt; fault_of(rt.alloc(), script.as_bytes()), fault, "{text}");
+        same(
+            &rt,
+            (text, fault_of(rt.alloc(), script.as_bytes())),
+            (text, fault),
+        );
     }
     Ok(())
 }
@@ -246,7 +259,11 @@ fn members_that_may_be_left_out(rt: HostRuntime) -> Result<(), Fail> {
     ];
     for (text, fault) in table {
         let script = with_member(rt.alloc(), text)?;
-        assert_eq!(rt; fault_of(rt.alloc(), script.as_bytes()), fault, "{text}");
+        same(
+            &rt,
+            (text, fault_of(rt.alloc(), script.as_bytes())),
+            (text, fault),
+        );
     }
     Ok(())
 }
@@ -321,7 +338,11 @@ fn operations(rt: HostRuntime) -> Result<(), Fail> {
     ];
     for (text, fault) in table {
         let script = with_operation(rt.alloc(), text)?;
-        assert_eq!(rt; fault_of(rt.alloc(), script.as_bytes()), fault, "{text}");
+        same(
+            &rt,
+            (text, fault_of(rt.alloc(), script.as_bytes())),
+            (text, fault),
+        );
     }
     Ok(())
 }
@@ -332,25 +353,25 @@ fn lists_of_keys(rt: HostRuntime) -> Result<(), Fail> {
         let ids = numbers(rt.alloc(), "", count, "")?;
         let operation = format!(in rt.alloc(); r#"["get",[{ids}]]"#)?;
         let script = with_operation(rt.alloc(), operation.as_str())?;
-        assert_eq!(rt;
-            fault_of(rt.alloc(), script.as_bytes()),
-            fault,
-            "get {count}"
+        same(
+            &rt,
+            (count, fault_of(rt.alloc(), script.as_bytes())),
+            (count, fault),
         );
         let keys = numbers(rt.alloc(), "[7,", count, "]")?;
         let reads = format!(in rt.alloc(); r#""reads":[{keys}],"writes":[[0,1]]"#)?;
         let script = with_member(rt.alloc(), reads.as_str())?;
-        assert_eq!(rt;
-            fault_of(rt.alloc(), script.as_bytes()),
-            fault,
-            "reads {count}"
+        same(
+            &rt,
+            (count, fault_of(rt.alloc(), script.as_bytes())),
+            (count, fault),
         );
         let writes = format!(in rt.alloc(); r#""reads":[],"writes":[{keys}]"#)?;
         let script = with_member(rt.alloc(), writes.as_str())?;
-        assert_eq!(rt;
-            fault_of(rt.alloc(), script.as_bytes()),
-            fault,
-            "writes {count}"
+        same(
+            &rt,
+            (count, fault_of(rt.alloc(), script.as_bytes())),
+            (count, fault),
         );
     }
     Ok(())
@@ -363,7 +384,11 @@ fn longest_batch(rt: HostRuntime) -> Result<(), Fail> {
         let requests = repeated(rt.alloc(), request, count)?;
         let batch = format!(in rt.alloc(); r#"{{"group":0,"txns":[{requests}]}}"#)?;
         let script = with_batches(rt.alloc(), batch.as_str())?;
-        assert_eq!(rt; fault_of(rt.alloc(), script.as_bytes()), fault, "{count}");
+        same(
+            &rt,
+            (count, fault_of(rt.alloc(), script.as_bytes())),
+            (count, fault),
+        );
     }
     Ok(())
 }
@@ -382,7 +407,7 @@ fn applications(rt: HostRuntime) -> Result<(), Fail> {
         (r#"["app","kv"]"#, None),
     ] {
         let document = Document::read(rt.alloc(), text.as_bytes())?;
-        assert_eq!(rt; document.app(), app, "{text}");
+        same(&rt, (text, document.app()), (text, app));
     }
     Ok(())
 }

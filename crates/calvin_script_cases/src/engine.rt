@@ -1,5 +1,6 @@
 //! Cases of the engine `serial` over memory: those of the operations that follow rows, and of scouted sets. The others go
 //! through the command line.
+use crate::checks::same;
 use calvin_edge::{MemorySink, MemorySource};
 use calvin_serial::{UndeclaredSets, serial};
 use std::alloc::Global;
@@ -9,10 +10,11 @@ use std::process::Abort;
 fn prints_with(rt: &impl Abort, alloc: Global, sets: UndeclaredSets, script: &str, text: &str) {
     let mut input = MemorySource::new(script.as_bytes());
     let mut output = MemorySink::new(alloc);
-    assert_eq!(rt; serial(alloc, sets, &mut input, &mut output), Ok(()));
-    assert!(rt;
-        output.taken.as_slice() == text.as_bytes(),
-        "the text for {script}"
+    same(rt, serial(alloc, sets, &mut input, &mut output), Ok(()));
+    same(
+        rt,
+        (script, output.taken.as_slice() == text.as_bytes()),
+        (script, true),
     );
 }
 

@@ -5,6 +5,8 @@
 #[cfg(test)]
 mod accepted;
 #[cfg(test)]
+mod checks;
+#[cfg(test)]
 mod engine;
 #[cfg(test)]
 mod spelled;

@@ -1,4 +1,5 @@
 //! What a script spells.
+use crate::checks::same;
 use calvin_app::KvRequest;
 use calvin_script::{Epoch, GroupBatch, Kept, Request, Script, script_from};
 use calvin_types::{Fault, Key, KeySet, MOST_REQUESTS, RequestId, Sets, Txn};
@@ -129,6 +130,6 @@ fn a_script_in_full(rt: HostRuntime) -> Result<(), Fail> {
         epochs,
     };
     let found = script_from::<KvRequest>(alloc, text.as_bytes())?;
-    assert_eq!(rt; whole(alloc, &found)?, expected);
+    same(&rt, whole(alloc, &found)?, expected);
     Ok(())
 }

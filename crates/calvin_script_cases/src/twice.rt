@@ -1,5 +1,6 @@
 //! Names that an object has twice: the last one counts, whatever the first one is.
 use crate::accepted::{fault_of, with_batches, with_request};
+use crate::checks::same;
 use crate::spelled::{id, key};
 use calvin_app::KvRequest;
 use calvin_script::{Kept, Script, script_from};
@@ -27,7 +28,11 @@ fn a_name_given_twice(rt: HostRuntime) {
         ),
     ];
     for (text, fault) in table {
-        assert_eq!(rt; fault_of(rt.alloc(), text.as_bytes()), fault, "{text}");
+        same(
+            &rt,
+            (text, fault_of(rt.alloc(), text.as_bytes())),
+            (text, fault),
+        );
     }
 }
 
@@ -112,7 +117,11 @@ fn the_name_of_a_request_given_twice(rt: HostRuntime) -> Result<(), Fail> {
         ),
     ] {
         let want = if is_taken { puts() } else { refusals() };
-        assert_eq!(rt; in_each_way(rt.alloc(), members)?, want, "{members}");
+        same(
+            &rt,
+            (members, in_each_way(rt.alloc(), members)?),
+            (members, want),
+        );
     }
     Ok(())
 }
@@ -134,7 +143,11 @@ fn an_operation_given_twice(rt: HostRuntime) -> Result<(), Fail> {
         ),
     ] {
         let want = if is_taken { puts() } else { refusals() };
-        assert_eq!(rt; in_each_way(rt.alloc(), members)?, want, "{members}");
+        same(
+            &rt,
+            (members, in_each_way(rt.alloc(), members)?),
+            (members, want),
+        );
     }
     Ok(())
 }
@@ -161,7 +174,11 @@ fn an_attempt_given_twice(rt: HostRuntime) {
         (r#""attempt":2,"attempt":3"#, Some(3)),
     ] {
         let want = put_or_refusal(attempt, KeySet::new());
-        assert_eq!(rt; with_more(rt.alloc(), members), want, "{members}");
+        same(
+            &rt,
+            (members, with_more(rt.alloc(), members)),
+            (members, want),
+        );
     }
 }
 
@@ -190,7 +207,11 @@ fn a_set_given_twice(rt: HostRuntime) {
         ),
     ] {
         let want = put_or_refusal(attempt, KeySet::of(key(0, 2)));
-        assert_eq!(rt; with_more(rt.alloc(), members), want, "{members}");
+        same(
+            &rt,
+            (members, with_more(rt.alloc(), members)),
+            (members, want),
+        );
     }
 }
 
@@ -215,6 +236,6 @@ fn a_group_given_twice(rt: HostRuntime) {
         (r#"{"group":1,"txns":0,"txns":[]}"#, Ok(Some(1))),
         (r#"{"group":1,"txns":[],"txns":0}"#, bad),
     ] {
-        assert_eq!(rt; group_of(rt.alloc(), batch), want, "{batch}");
+        same(&rt, (batch, group_of(rt.alloc(), batch)), (batch, want));
     }
 }
