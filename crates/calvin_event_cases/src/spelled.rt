@@ -1,4 +1,5 @@
 //! Events and scripts as they are read.
+use crate::checks::{holds, same};
 use calvin_app::KvRequest;
 use calvin_events::{EventScript, ListedEvent, event_script_of};
 use calvin_node::Act;
@@ -81,7 +82,7 @@ fn each_event(rt: HostRuntime) -> Result<(), Fail> {
     ];
     for (text, wanted) in &table {
         let event = event_of(rt.alloc(), text)?;
-        assert!(rt; event == *wanted, "{text}");
+        same(&rt, (text, event == *wanted), (text, true));
     }
     Ok(())
 }
@@ -95,10 +96,10 @@ fn a_submission(rt: HostRuntime) -> Result<(), Fail> {
     let Event::At(id, Act::Submit(txn)) = event else {
         return Err(Fault::BadScript.into());
     };
-    assert_eq!(rt; (id.replica, id.partition), (255, 254));
-    assert_eq!(rt; (txn.id.client, txn.id.number, txn.attempt), (7, 1, 9));
-    assert!(rt; txn.args == KvRequest::Put(1, 5));
-    assert_eq!(rt; (txn.sets.reads.len(), txn.sets.writes.len()), (0, 1));
+    same(&rt, (id.replica, id.partition), (255, 254));
+    same(&rt, (txn.id.client, txn.id.number, txn.attempt), (7, 1, 9));
+    holds(&rt, txn.args == KvRequest::Put(1, 5));
+    same(&rt, (txn.sets.reads.len(), txn.sets.writes.len()), (0, 1));
     Ok(())
 }
 
@@ -108,17 +109,19 @@ fn the_other_members(rt: HostRuntime) -> Result<(), Fail> {
     let members = r#""partitions":16,"replicas":7,"expect":["0.0 7:1 done",""],"events":[
         ["submit",0,0,{"client":7,"number":2,"op":["get",[]]}],["close",0,0]]"#;
     let script = with_members(alloc, members)??;
-    assert_eq!(rt;
+    same(
+        &rt,
         (script.partitions, script.replicas, script.events.len()),
-        (16, 7, 2)
+        (16, 7, 2),
     );
     let texts = script.expect.ok_or(Fault::BadScript)?;
     assert_eq!(rt; texts.len(), 2);
-    assert_eq!(rt;
+    same(
+        &rt,
         (texts[0].as_str(), texts[1].as_str()),
-        ("0.0 7:1 done", "")
+        ("0.0 7:1 done", ""),
     );
-    assert!(rt; with_events(alloc, "")??.expect.is_none());
+    holds(&rt, with_events(alloc, "")??.expect.is_none());
     Ok(())
 }
 
@@ -180,11 +183,11 @@ fn what_is_refused(rt: HostRuntime) -> Result<(), Fail> {
     let alloc = rt.alloc();
     for event in NO_EVENTS {
         let fault = with_events(alloc, event)?.err();
-        assert!(rt; fault == Some(Fault::BadScript), "{event}");
+        same(&rt, (event, fault), (event, Some(Fault::BadScript)));
     }
     for members in NO_SCRIPTS {
         let fault = with_members(alloc, members)?.err();
-        assert!(rt; fault == Some(Fault::BadScript), "{members}");
+        same(&rt, (members, fault), (members, Some(Fault::BadScript)));
     }
     Ok(())
 }
@@ -192,6 +195,6 @@ fn what_is_refused(rt: HostRuntime) -> Result<(), Fail> {
 /// An event takes 40 bytes, whatever a request takes: a list of them is small beside the script that it was read from.
 #[test]
 fn events_are_small(rt: HostRuntime) -> Result<(), Fail> {
-    assert_eq!(rt; size_of::<ListedEvent<Kept<KvRequest>>>(), 40);
+    same(&rt, size_of::<ListedEvent<Kept<KvRequest>>>(), 40);
     Ok(())
 }
