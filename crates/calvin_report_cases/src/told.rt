@@ -1,4 +1,5 @@
 //! One node alone, and what is told of it.
+use crate::checks::same;
 use calvin_app::{Kv, KvRequest};
 use calvin_lock::{ListLocks, Locks, QueueLocks};
 use calvin_node::Act;
@@ -64,7 +65,7 @@ fn check<L: Locks + Drop>(
     text: &str,
 ) -> Result<(), Fault> {
     let found = told::<L>(alloc, events, epochs)?;
-    assert_eq!(rt; found.as_slice(), text.as_bytes());
+    same(rt, found.as_slice(), text.as_bytes());
     Ok(())
 }
 
