@@ -1,4 +1,5 @@
 //! Two partitions in three replicas: what is told, which rows the nodes end with, and what they sent.
+use crate::checks::{holds, same};
 use calvin_app::Kv;
 use calvin_edge::{MemorySink, MemorySource};
 use calvin_lock::QueueLocks;
@@ -42,9 +43,10 @@ fn world_of(
     let Ok(Simulated::Kv(world)) = sim(alloc, &schedule, &mut input, &mut output) else {
         panic!(rt; "the script was refused");
     };
-    assert!(rt;
-        output.taken.as_slice() == text.as_bytes(),
-        "the text for {script}"
+    same(
+        rt,
+        (script, output.taken.as_slice() == text.as_bytes()),
+        (script, true),
     );
     world
 }
@@ -52,13 +54,13 @@ fn world_of(
 /// The rows of keys 1 and 2 at every replica, and how many rows each node has.
 fn ends_with(rt: &impl Abort, world: &KvWorld, first: Option<u64>, second: Option<u64>) {
     for replica in 0..REPLICAS {
-        assert_eq!(rt; world.peek(replica, &key(1)), first);
-        assert_eq!(rt; world.peek(replica, &key(2)), second);
+        same(rt, world.peek(replica, &key(1)), first);
+        same(rt, world.peek(replica, &key(2)), second);
         for (partition, row) in [(0, second), (1, first)] {
             let Some(node) = world.node(NodeId { replica, partition }) else {
                 panic!(rt; "no node {replica}.{partition}");
             };
-            assert_eq!(rt; node.rows().len(), row.is_some() as usize);
+            same(rt, node.rows().len(), row.is_some() as usize);
         }
     }
 }
@@ -102,7 +104,7 @@ fn move_short(rt: HostRuntime) {
     ends_with(&rt, &world, Some(10), None);
     for replica in 0..REPLICAS {
         for partition in 0..2 {
-            assert!(&rt; replied(&world, NodeId { replica, partition }, SECOND));
+            holds(&rt, replied(&world, NodeId { replica, partition }, SECOND));
         }
     }
 }
@@ -125,8 +127,14 @@ fn passive_partition(rt: HostRuntime) {
                 partition: 1,
             },
         );
-        assert!(&rt; replied(&world, active, first) && !served(&world, active, first));
-        assert!(&rt; served(&world, passive, first) && !replied(&world, passive, first));
+        holds(
+            &rt,
+            replied(&world, active, first) && !served(&world, active, first),
+        );
+        holds(
+            &rt,
+            served(&world, passive, first) && !replied(&world, passive, first),
+        );
     }
 }
 
