@@ -5,10 +5,10 @@
 --     opened_layer partitions replicas delay id synod epochs      a layer that is opened with a synod, after so many epochs
 --     layer_of partitions replicas id member sequencer merge      a layer with these parts
 --     rest_of points cold pending scheduler kept      the rest of a node with these parts
---     state_of l r      the data of the node that has both
---     node_of l r      these, and what it is opened with
+--     state_of l r      the data of the node that has both; of the places that are due, those that aren't done
+--     node_of l r      the node: these data, and what its store is opened with
 --     IsLayer partitions replicas id member merge      the parts of a layer are of its store and its name
---     IsOf old new      a layer is of the same node as another, and of as many epochs
+--     IsOf old new      a layer is of the same node as another, in a store of as many partitions, and has merged as many epochs
 --     IsNode l scheduler      the scheduler of a node is of its layer
 --     LayerDid grows result deed old new sent all      what a call made of each node with the layer, and of what it sent, by the deed
 use Rattle.std.specs.Prelude.{◌≡◌, ℕ, Bool, List, Option, Result}
@@ -40,7 +40,7 @@ pub record Layer (Args : Type 0) : Type 0 where
   pub sequencer : Sequencing Args
   -- the batches held, by slot
   pub held : Batches Args
-  -- how many epochs are merged
+  -- how many epochs are merged, those of a loaded snapshot among them
   pub merged_epochs : ℕ
 
 pub record Rest (Args Row : Type 0) : Type 0 where

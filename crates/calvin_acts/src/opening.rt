@@ -1,4 +1,5 @@
-//! What a node is opened with: the scheduler that goes on from a snapshot, and the epoch after it.
+//! What a node is opened with: the scheduler that goes on from a snapshot, the epoch after it, and whether one of an epoch is
+//! kept already.
 ghost use Rattle.std.specs.Prelude.{◌≡◌, ◌+◌, ◌^◌, ◌≤◌, [], true, IfOk, IfErr, MatchBool};
 ghost use Rattle.std.specs.Option.{unwrap_or};
 ghost use Rattle.calvin_types.specs.Participants.{site};
@@ -24,7 +25,7 @@ pub fn first_epoch<Row>(kept: &Option<(u64, Snapshot<Row>)>) -> Option<u64>
     }
 }
 
-/// Whether the last snapshot is of an epoch or a later one.
+/// Whether the last snapshot is of this epoch or a later one; where there is none it isn't.
 pub fn has_kept<Row>(kept: &Option<(u64, Snapshot<Row>)>, epoch: u64) -> bool
     ensures { MatchBool result (epoch + 1 ≤ kept_epochs kept.now) (kept_epochs kept.now ≤ epoch) }
 {

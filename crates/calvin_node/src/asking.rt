@@ -9,7 +9,7 @@ ghost use Rattle.calvin_acts.specs.Running.{NodeDid};
 use crate::node::Node;
 use calvin_app::App;
 use calvin_lock::Locks;
-use calvin_packets::{Address, Content, Outbox, Packet};
+use calvin_packets::{Content, Outbox};
 use calvin_store::Rows;
 use calvin_types::{Fault, Few, NodeId, Place, Slot};
 

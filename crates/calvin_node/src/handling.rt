@@ -1,7 +1,6 @@
 //! What a node makes of a packet.
 ghost use Rattle.std.specs.Prelude.{[], false, true};
 ghost use Rattle.calvin_sched.specs.Scheduling.{turn_at};
-ghost use Rattle.calvin_sched.specs.Standing as standing;
 ghost use Rattle.calvin_sched.specs.Steps as steps;
 ghost use Rattle.calvin_packets.specs.declared.packet.Content.TheVariants.{Warm};
 ghost use Rattle.calvin_acts.specs.Growing.{content_grows};

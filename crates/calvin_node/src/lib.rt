@@ -1,4 +1,4 @@
-//! A node: partition p of replica r, with its sequencer, its synods, the batches that it holds and its scheduler. Each event
+//! A node: partition p of replica r, with its sequencing layer and its scheduler. Each event
 //! of a node is a call here, and so is what it makes of a packet.
 #![tactic(auto)]
 

@@ -37,6 +37,7 @@ impl<A: App, L: Locks + Drop, S: Rows<A::Row> + Drop> Node<A, L, S> {
     {
         self.layer.close()
     }
+
     /// Begins a new ballot for the batch that the sequencer closed for an epoch ("Paxos Made Simple", section 2.2, phase 1a).
     /// Refused with `RoundsSpent` where there is no greater round, with `NotClosed` where no batch was closed for the epoch
     /// since the last restart, with `Decided` where the slot's batch is held, else with `OutOfMemory` where a growth was

@@ -1,4 +1,4 @@
-//! What a node does that its group may agree on its batches.
+//! What a layer does that its group may agree on its batches.
 ghost use Rattle.std.specs.Prelude.{true};
 ghost use Rattle.calvin_acts.specs.Acting as acting;
 ghost use Rattle.calvin_acts.specs.Layers.{LayerDid, IsOf};

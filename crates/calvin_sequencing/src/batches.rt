@@ -1,4 +1,4 @@
-//! The batches that a node holds, tells, and asks for.
+//! The batches that a layer holds, tells, and asks for.
 ghost use Rattle.std.specs.Prelude.{◌≡◌, ◌&&◌, [], nat_lt, true};
 ghost use Rattle.std.specs.Option.{option_copied};
 ghost use Rattle.std.specs.FinMap as map;

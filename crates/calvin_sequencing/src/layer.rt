@@ -14,7 +14,7 @@ use std::marker::Model;
 
 /// What a node decides with the other nodes of its group (Thomson et al. 2012, section 3.1: the sequencing layer, and its
 /// replication): a sequencer, which gathers requests into batches; the replica's roles in the synods, which agree on them; and
-/// the batches that are held, which are merged into one order.
+/// the batches of all groups that are held, which are merged into one order.
 ///
 /// Where an event takes effect at it, each node with this layer is what the event's case leaves, and the packets that it sends
 /// are appended to the outbox that the call is handed; else the call is the refusal of that case, and nothing changed.
@@ -101,7 +101,7 @@ impl<A: App> SequencingLayer<A> {
         self.id
     }
 
-    /// What its store is opened with.
+    /// How many partitions and replicas its store is opened with; of the delay nothing is said.
     pub fn config(&self) -> &Config
         ensures partitions { result.now.partitions ≡ self.now.partitions }
         ensures replicas { result.now.replicas ≡ self.now.replicas }

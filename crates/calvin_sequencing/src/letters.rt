@@ -1,4 +1,4 @@
-//! What a node makes of the messages of its group's synods.
+//! What a layer makes of the messages of its group's synods.
 ghost use Rattle.std.specs.Prelude.{◌≡◌, None, false, true};
 ghost use Rattle.std.specs.FinMap as map;
 ghost use Rattle.calvin_synod.specs.Cases as cases;

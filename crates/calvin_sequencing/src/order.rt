@@ -1,4 +1,4 @@
-//! The order of a node: the batches that are held are merged, epoch after epoch.
+//! The order: the batches that a layer holds are merged, epoch after epoch.
 ghost use Rattle.std.specs.Prelude.{◌≡◌, ◌^◌, ◌<◌, ◌↔◌, ◌⊎◌, suc, length, IfOk, IfErr, IsSome, IsErrOf, OnOk, MatchOption};
 ghost use Rattle.calvin_order.specs.Configs.{merged, unwoven};
 ghost use Rattle.calvin_order.specs.Merged.{joined};
@@ -29,7 +29,8 @@ impl<A: App> SequencingLayer<A> {
         self.merge.next_requests()
     }
 
-    /// Goes on to the epoch after it, since each group's batch is held for it. Batches stay held.
+    /// Counts the epoch that is merged next as merged, and goes on to the one after. Each group's batch has to be held for it, as
+    /// it is once `next_requests` succeeded. Batches stay held.
     pub fn pass_epoch(&mut self)
         requires { HoldsAll self.old.held self.old.merged_epochs self.old.partitions }
         ensures { self.new ≡ record self.old { merged_epochs = suc self.old.merged_epochs } }
