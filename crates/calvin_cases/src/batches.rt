@@ -1,4 +1,5 @@
 //! Batches at their limit, copies of what is shared, the text of a fault, and the order of places and names.
+use crate::checks::{holds, same};
 use crate::keys::{refusal, txn};
 use calvin_types::{Ballot, Batch, Fault, Key, NodeId, Place, RequestId, Shared, Slot, Txn};
 use std::alloc::Global;
@@ -39,10 +40,10 @@ fn batch(alloc: Global, count: u32) -> Result<Batch<u64>, Fault> {
 #[test]
 fn batches(rt: HostRuntime) {
     for (count, want) in [(0, 0), (1, 0), (256, 0), (257, 5)] {
-        assert_eq!(rt;
-            refusal(&batch(rt.alloc(), count)),
-            want,
-            "{count} requests"
+        same(
+            &rt,
+            (count, refusal(&batch(rt.alloc(), count))),
+            (count, want),
         );
     }
 }
@@ -52,14 +53,14 @@ fn copies_of_a_batch(rt: HostRuntime) -> Result<(), Fail> {
     let alloc = rt.alloc();
     let first = batch(alloc, 256)?;
     let copy = first.copy()?;
-    assert!(rt; copy == first);
-    assert!(rt; batch(alloc, 256)? == first);
-    assert!(rt; batch(alloc, 255)? != first);
+    holds(&rt, copy == first);
+    holds(&rt, batch(alloc, 256)? == first);
+    holds(&rt, batch(alloc, 255)? != first);
     drop(first);
     let (size, there, alike) = probed(&copy, 255);
-    assert!(rt; size == 256 && alike);
-    assert_eq!(rt; there.map(|txn| txn.id.number), Some(255));
-    assert!(rt; probed(&copy, 256) == (256, None, true));
+    holds(&rt, size == 256 && alike);
+    same(&rt, there.map(|txn| txn.id.number), Some(255));
+    holds(&rt, probed(&copy, 256) == (256, None, true));
     Ok(())
 }
 
@@ -90,8 +91,8 @@ fn batches_cross_threads(rt: HostRuntime) -> Result<(), Fail> {
     let alloc = rt.alloc();
     let batch = Batch::new(alloc, requests(alloc, 100)?)?;
     let kept = batch.copy()?;
-    assert!(rt; goes_along(rt, alloc, batch)? == 200);
-    assert!(rt; kept.len() == 100);
+    holds(&rt, goes_along(rt, alloc, batch)? == 200);
+    holds(&rt, kept.len() == 100);
     Ok(())
 }
 
@@ -99,9 +100,9 @@ fn batches_cross_threads(rt: HostRuntime) -> Result<(), Fail> {
 fn shared_items(rt: HostRuntime) -> Result<(), Fail> {
     let shared = Shared::new(rt.alloc(), [1u8, 2].to_vec(rt.alloc())?)?;
     let other = shared.share()?;
-    assert!(rt; other == shared);
+    holds(&rt, other == shared);
     drop(shared);
-    assert_eq!(rt; other.as_slice(), [1, 2].as_slice());
+    same(&rt, other.as_slice(), [1, 2].as_slice());
     Ok(())
 }
 
@@ -115,9 +116,9 @@ fn faults(rt: HostRuntime) -> Result<(), Fail> {
         (Fault::WriteFailed, 96, "WriteFailed"),
         (Fault::NotExpected, 100, "NotExpected"),
     ] {
-        assert_eq!(rt; fault.number(), number);
+        same(&rt, fault.number(), number);
         let shown = format!(in rt.alloc(); "{fault}")?;
-        assert_eq!(rt; shown.as_str(), name);
+        same(&rt, shown.as_str(), name);
     }
     Ok(())
 }
@@ -184,6 +185,10 @@ fn orders(rt: HostRuntime) {
         (3, 3, 3, 3, Ordering::Equal),
         (0, 255, 1, 0, Ordering::Less),
     ] {
-        assert_eq!(rt; compared(a, b, c, d), [want; 6], "{a} {b} and {c} {d}");
+        same(
+            &rt,
+            (a, b, c, d, compared(a, b, c, d)),
+            (a, b, c, d, [want; 6]),
+        );
     }
 }

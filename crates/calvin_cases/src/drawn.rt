@@ -1,4 +1,5 @@
 //! Drawn events: losses, repeats, restarts and competing proposers, compared with a plain evaluation.
+use crate::checks::same;
 use crate::group::{batch_of, number_of};
 use crate::plain::{End, Letter, PlainGroup, Said, Vote};
 use calvin_group::{Group, GroupEvent, Outcome, Packet};
@@ -104,7 +105,7 @@ fn are_agreed(rt: &impl Abort, ends: &[End]) -> usize {
             for i in 0..2 {
                 if slot.epoch == i as u64 {
                     match first[i] {
-                        Some(given) => assert_eq!(rt; given, *batch),
+                        Some(given) => same(rt, given, *batch),
                         None => first[i] = Some(*batch),
                     }
                 }
@@ -130,17 +131,19 @@ fn compare(rt: &impl Abort, alloc: Global, size: u8, start: u64) -> Result<usize
     for outcome in outcomes.as_slice() {
         found.push(end_of(outcome))?;
     }
-    assert!(rt;
-        found.as_slice() == ends.as_slice(),
-        "outcomes of {size} from {start}"
+    same(
+        rt,
+        (size, start, found.as_slice() == ends.as_slice()),
+        (size, start, true),
     );
     let mut letters = Vec::new(alloc);
     for packet in group.packets() {
         letters.push(plain_of(packet))?;
     }
-    assert!(rt;
-        letters.as_slice() == plain.letters.as_slice(),
-        "packets of {size} from {start}"
+    same(
+        rt,
+        (size, start, letters.as_slice() == plain.letters.as_slice()),
+        (size, start, true),
     );
     Ok(are_agreed(rt, ends.as_slice()))
 }
@@ -153,6 +156,6 @@ fn as_the_plain_evaluation(rt: HostRuntime) -> Result<(), Fail> {
             given = given.saturating_add(compare(&rt, rt.alloc(), size, start)?);
         }
     }
-    assert!(rt; given > 80, "{given} were given");
+    same(&rt, (given, given > 80), (given, true));
     Ok(())
 }

@@ -1,4 +1,5 @@
 //! Groups with exact packet numbers.
+use crate::checks::{holds, same};
 use calvin_group::{Group, GroupEvent, Outcome, Packet};
 use calvin_synod::{Message, Recorded, Vote};
 use calvin_types::{Ballot, Batch, Config, Fault, KeySet, RequestId, Sets, Slot, Txn};
@@ -53,14 +54,22 @@ fn end_of(group: &mut Group<u64>, event: GroupEvent<Batch<u64>>) -> Result<u64, 
     })
 }
 
+/// Delivers a packet, which ends so.
+fn delivery_ends(
+    rt: &impl Abort,
+    group: &mut Group<u64>,
+    number: usize,
+    want: u64,
+) -> Result<(), Fault> {
+    let end = end_of(group, GroupEvent::Deliver(number))?;
+    same(rt, (number, end), (number, want));
+    Ok(())
+}
+
 /// Delivers packets in turn, each of which takes effect and gives no batch.
 fn deliver(rt: &impl Abort, group: &mut Group<u64>, numbers: &[usize]) -> Result<(), Fault> {
     for number in numbers {
-        assert_eq!(rt;
-            end_of(group, GroupEvent::Deliver(*number))?,
-            0,
-            "packet {number}"
-        );
+        delivery_ends(rt, group, *number, 0)?;
     }
     Ok(())
 }
@@ -72,7 +81,7 @@ fn propose(
     batch: Batch<u64>,
 ) -> Result<(), Fault> {
     let end = end_of(group, GroupEvent::Propose(replica, SLOT, batch))?;
-    assert_eq!(rt; end, 0);
+    same(rt, end, 0);
     Ok(())
 }
 
@@ -86,9 +95,10 @@ fn check_sent(
     message: Message<Batch<u64>>,
 ) {
     let packet = Packet { from, to, message };
-    assert!(rt;
-        group.packets().get(number) == Some(&packet),
-        "packet {number}"
+    same(
+        rt,
+        (number, group.packets().get(number) == Some(&packet)),
+        (number, true),
     );
 }
 
@@ -151,7 +161,7 @@ fn up_to_the_vote(rt: &impl Abort, alloc: Global) -> Result<Group<u64>, Fault> {
         let want = accepted(1, 0, batch_of(alloc, 7)?);
         check_sent(rt, &group, 8 + to as usize, 0, to, want);
     }
-    assert_eq!(rt; group.packets().len(), 11);
+    same(rt, group.packets().len(), 11);
     Ok(group)
 }
 
@@ -180,7 +190,7 @@ fn up_to_the_accepts(rt: &impl Abort, alloc: Global) -> Result<Group<u64>, Fault
         let want = accept(1, 1, batch_of(alloc, 7)?);
         check_sent(rt, &group, 16 + to as usize, 1, to, want);
     }
-    assert_eq!(rt; group.packets().len(), 19);
+    same(rt, group.packets().len(), 19);
     Ok(group)
 }
 
@@ -196,7 +206,7 @@ fn check_promised(rt: &impl Abort, group: &Group<u64>) {
         promise: at(1, 1),
         vote: None,
     };
-    assert!(rt; group.recorded(1, SLOT) == Some(&want));
+    holds(rt, group.recorded(1, SLOT) == Some(&want));
 }
 
 #[test]
@@ -205,7 +215,7 @@ fn old_ballot_refused(rt: HostRuntime) -> Result<(), Fail> {
     check_promised(&rt, &group);
     deliver(&rt, &mut group, &[6])?;
     check_sent(&rt, &group, 19, 1, 0, refused(1, 0, at(1, 1)));
-    assert_eq!(rt; group.packets().len(), 20);
+    same(&rt, group.packets().len(), 20);
     check_promised(&rt, &group);
     Ok(())
 }
@@ -227,30 +237,39 @@ fn prepare_repeated(rt: HostRuntime) -> Result<(), Fail> {
     Ok(())
 }
 
+/// Prepares 0 and 1, promises 2 and 3, accepts 4 and 5, votes of replica 0: 6 and 7, of replica 1: 8 and 9.
+fn majority_of_two(rt: &impl Abort, alloc: Global) -> Result<(), Fault> {
+    let mut group = group_of(alloc, 2)?;
+    propose(rt, &mut group, 0, batch_of(alloc, 7)?)?;
+    deliver(rt, &mut group, &[0, 1, 2, 3, 4, 5, 6])?;
+    for (number, end) in [(6, 22), (8, 1007), (8, 22)] {
+        delivery_ends(rt, &mut group, number, end)?;
+    }
+    Ok(())
+}
+
+/// Prepare 0, promise 1, accept 2, vote 3.
+fn majority_of_one(rt: &impl Abort, alloc: Global) -> Result<(), Fault> {
+    let mut group = group_of(alloc, 1)?;
+    propose(rt, &mut group, 0, batch_of(alloc, 7)?)?;
+    deliver(rt, &mut group, &[0, 1, 2])?;
+    delivery_ends(rt, &mut group, 3, 1007)
+}
+
 #[test]
 fn majorities(rt: HostRuntime) -> Result<(), Fail> {
-    // Of two: prepares 0 and 1, promises 2 and 3, accepts 4 and 5, votes of replica 0: 6 and 7, of replica 1: 8 and 9.
-    let mut group = group_of(rt.alloc(), 2)?;
-    propose(&rt, &mut group, 0, batch_of(rt.alloc(), 7)?)?;
-    deliver(&rt, &mut group, &[0, 1, 2, 3, 4, 5, 6])?;
-    assert_eq!(rt; end_of(&mut group, GroupEvent::Deliver(6))?, 22);
-    assert_eq!(rt; end_of(&mut group, GroupEvent::Deliver(8))?, 1007);
-    assert_eq!(rt; end_of(&mut group, GroupEvent::Deliver(8))?, 22);
-    // Of one: prepare 0, promise 1, accept 2, vote 3.
-    let mut group = group_of(rt.alloc(), 1)?;
-    propose(&rt, &mut group, 0, batch_of(rt.alloc(), 7)?)?;
-    deliver(&rt, &mut group, &[0, 1, 2])?;
-    assert_eq!(rt; end_of(&mut group, GroupEvent::Deliver(3))?, 1007);
+    majority_of_two(&rt, rt.alloc())?;
+    majority_of_one(&rt, rt.alloc())?;
     Ok(())
 }
 
 #[test]
 fn restart_before_promises(rt: HostRuntime) -> Result<(), Fail> {
     let mut group = up_to_the_promises(&rt, rt.alloc())?;
-    assert_eq!(rt; end_of(&mut group, GroupEvent::Restart(1))?, 0);
-    assert_eq!(rt; end_of(&mut group, GroupEvent::Deliver(15))?, 21);
-    assert_eq!(rt; end_of(&mut group, GroupEvent::Deliver(14))?, 21);
-    assert_eq!(rt; group.packets().len(), 16);
+    same(&rt, end_of(&mut group, GroupEvent::Restart(1))?, 0);
+    delivery_ends(&rt, &mut group, 15, 21)?;
+    delivery_ends(&rt, &mut group, 14, 21)?;
+    same(&rt, group.packets().len(), 16);
     propose(&rt, &mut group, 1, batch_of(rt.alloc(), 8)?)?;
     check_sent(&rt, &group, 16, 1, 0, prepare(2, 1));
     Ok(())
@@ -260,15 +279,13 @@ fn restart_before_promises(rt: HostRuntime) -> Result<(), Fail> {
 fn no_such(rt: HostRuntime) -> Result<(), Fail> {
     let mut group = group_of(rt.alloc(), 3)?;
     let batch = batch_of(rt.alloc(), 7)?;
-    assert_eq!(rt;
-        end_of(&mut group, GroupEvent::Propose(3, SLOT, batch))?,
-        60
-    );
-    assert_eq!(rt; end_of(&mut group, GroupEvent::Restart(3))?, 60);
-    assert_eq!(rt; end_of(&mut group, GroupEvent::Deliver(0))?, 61);
+    let end = end_of(&mut group, GroupEvent::Propose(3, SLOT, batch))?;
+    same(&rt, end, 60);
+    same(&rt, end_of(&mut group, GroupEvent::Restart(3))?, 60);
+    delivery_ends(&rt, &mut group, 0, 61)?;
     propose(&rt, &mut group, 2, batch_of(rt.alloc(), 7)?)?;
-    assert_eq!(rt; end_of(&mut group, GroupEvent::Deliver(2))?, 0);
-    assert_eq!(rt; end_of(&mut group, GroupEvent::Deliver(4))?, 61);
-    assert!(rt; group.recorded(3, SLOT).is_none());
+    delivery_ends(&rt, &mut group, 2, 0)?;
+    delivery_ends(&rt, &mut group, 4, 61)?;
+    holds(&rt, group.recorded(3, SLOT).is_none());
     Ok(())
 }

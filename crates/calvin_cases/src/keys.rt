@@ -1,4 +1,5 @@
 //! The worked case `limits` of the sets, the limits of configurations, and which partitions store a key and take part.
+use crate::checks::same;
 use calvin_types::{Config, Fault, Key, KeySet, RequestId, Sets, Txn};
 use std::alloc::{AllocError, Global};
 use std::test::Fail;
@@ -63,10 +64,10 @@ fn limits(rt: HostRuntime) -> Result<(), Fail> {
         (16, 1, 2),
         (2, 15, 2),
     ] {
-        assert_eq!(rt;
-            refused(rt.alloc(), distinct, again)?,
-            want,
-            "{distinct} and {again}"
+        same(
+            &rt,
+            (distinct, again, refused(rt.alloc(), distinct, again)?),
+            (distinct, again, want),
         );
     }
     Ok(())
@@ -85,10 +86,10 @@ fn configurations(rt: HostRuntime) -> Result<(), Fail> {
         (255, 255, 4),
     ] {
         let config = Config::new(partitions, replicas);
-        assert_eq!(rt;
-            refusal(&config),
-            want,
-            "{partitions} partitions and {replicas} replicas"
+        same(
+            &rt,
+            (partitions, replicas, refusal(&config)),
+            (partitions, replicas, want),
         );
     }
     Ok(())
@@ -105,7 +106,11 @@ fn partitions_of_keys(rt: HostRuntime) -> Result<(), Fail> {
         (16, plain(u64::MAX), 15),
     ] {
         let config = Config::new(partitions, 2)?;
-        assert_eq!(rt; config.partition_of(&key), want, "{key:?} of {partitions}");
+        same(
+            &rt,
+            (key, partitions, config.partition_of(&key)),
+            (key, partitions, want),
+        );
     }
     Ok(())
 }
@@ -178,7 +183,7 @@ fn participants_where_nothing_is_written(rt: HostRuntime) -> Result<(), Fail> {
         // It declares nothing.
         (&[], [Role::Absent; 4]),
     ] {
-        assert_eq!(rt; roles(rt.alloc(), reads, &[])?, want, "{reads:?}");
+        same(&rt, (reads, roles(rt.alloc(), reads, &[])?), (reads, want));
     }
     Ok(())
 }
@@ -187,10 +192,10 @@ fn participants_where_nothing_is_written(rt: HostRuntime) -> Result<(), Fail> {
 fn participants_of_a_single_key(rt: HostRuntime) -> Result<(), Fail> {
     let want = [Role::Absent, Role::Absent, Role::Least, Role::Absent];
     for (reads, writes) in [([].as_slice(), [6].as_slice()), (&[6], &[6])] {
-        assert_eq!(rt;
-            roles(rt.alloc(), reads, writes)?,
-            want,
-            "{reads:?} {writes:?}"
+        same(
+            &rt,
+            (reads, writes, roles(rt.alloc(), reads, writes)?),
+            (reads, writes, want),
         );
     }
     Ok(())
@@ -217,10 +222,10 @@ fn participants_that_read_and_write(rt: HostRuntime) -> Result<(), Fail> {
             [Role::Least, Role::Absent, Role::Absent, Role::Passive],
         ),
     ] {
-        assert_eq!(rt;
-            roles(rt.alloc(), reads, writes)?,
-            want,
-            "{reads:?} {writes:?}"
+        same(
+            &rt,
+            (reads, writes, roles(rt.alloc(), reads, writes)?),
+            (reads, writes, want),
         );
     }
     Ok(())

@@ -1,4 +1,5 @@
 //! What a merge holds and gives, with exact numbers, and each public call once.
+use crate::checks::same;
 use calvin_order::{EpochRequests, Merge};
 use calvin_types::{Batch, Config, Fault, KeySet, Place, RequestId, Sets, Slot, Txn};
 use std::alloc::Global;
@@ -47,13 +48,13 @@ fn gives(
     epoch: u64,
     numbers: &[u32],
 ) -> Result<(), Fault> {
-    assert_eq!(rt; merge.next(), Some(epoch));
+    same(rt, merge.next(), Some(epoch));
     let taken = merge.take_epoch()?;
-    assert_eq!(rt; taken.len(), numbers.len());
+    same(rt, taken.len(), numbers.len());
     let mut n = 0;
     for (number, (place, txn)) in numbers.iter().zip(taken.iter()) {
-        assert_eq!(rt; *place, Place { epoch, n });
-        assert_eq!(rt; txn.id.number, *number);
+        same(rt, *place, Place { epoch, n });
+        same(rt, txn.id.number, *number);
         n = n.saturating_add(1);
     }
     Ok(())
@@ -63,9 +64,9 @@ fn gives(
 fn groups_ascend(rt: HostRuntime) -> Result<(), Fail> {
     let alloc = rt.alloc();
     let mut merge = merge_of(alloc, 3)?;
-    assert_eq!(rt; hold(alloc, &mut merge, 0, 2, &[5, 4])?, true);
-    assert_eq!(rt; hold(alloc, &mut merge, 0, 0, &[9, 1])?, true);
-    assert_eq!(rt; hold(alloc, &mut merge, 0, 1, &[3])?, true);
+    same(&rt, hold(alloc, &mut merge, 0, 2, &[5, 4])?, true);
+    same(&rt, hold(alloc, &mut merge, 0, 0, &[9, 1])?, true);
+    same(&rt, hold(alloc, &mut merge, 0, 1, &[3])?, true);
     gives(&rt, &mut merge, 0, &[9, 1, 3, 5, 4])?;
     Ok(())
 }
@@ -74,11 +75,11 @@ fn groups_ascend(rt: HostRuntime) -> Result<(), Fail> {
 fn shows(rt: &impl Abort, merge: &Merge<u32>, epoch: u64, numbers: &[u32]) {
     let mut n = 0;
     for (place, txn) in EpochRequests::new(merge, epoch, 2) {
-        assert_eq!(rt; place, Place { epoch, n });
-        assert_eq!(rt; Some(&txn.id.number), numbers.get(n as usize));
+        same(rt, place, Place { epoch, n });
+        same(rt, Some(&txn.id.number), numbers.get(n as usize));
         n = n.saturating_add(1);
     }
-    assert_eq!(rt; n as usize, numbers.len());
+    same(rt, n as usize, numbers.len());
 }
 
 #[test]
@@ -87,12 +88,12 @@ fn requests_where_they_stand(rt: HostRuntime) -> Result<(), Fail> {
     let mut merge = merge_of(alloc, 2)?;
     hold(alloc, &mut merge, 0, 1, &[5, 4])?;
     shows(&rt, &merge, 0, &[5, 4]);
-    assert_eq!(rt; merge.pass_epoch(), Err(Fault::NotComplete));
+    same(&rt, merge.pass_epoch(), Err(Fault::NotComplete));
     hold(alloc, &mut merge, 0, 0, &[9])?;
     hold(alloc, &mut merge, 1, 0, &[7])?;
     shows(&rt, &merge, 0, &[9, 5, 4]);
-    assert_eq!(rt; merge.pass_epoch(), Ok(()));
-    assert_eq!(rt; merge.next(), Some(1));
+    same(&rt, merge.pass_epoch(), Ok(()));
+    same(&rt, merge.next(), Some(1));
     shows(&rt, &merge, 1, &[7]);
     shows(&rt, &merge, 2, &[]);
     Ok(())
@@ -106,17 +107,17 @@ fn batches_discarded(rt: HostRuntime) -> Result<(), Fail> {
     hold(alloc, &mut merge, 0, 1, &[5, 4])?;
     hold(alloc, &mut merge, 0, 2, &[3])?;
     hold(alloc, &mut merge, 1, 0, &[7])?;
-    assert_eq!(rt; merge.pass_epoch(), Ok(()));
+    same(&rt, merge.pass_epoch(), Ok(()));
     for (epoch, group) in [(0, 0), (0, 1), (0, 2), (1, 0)] {
-        assert_eq!(rt; merge.held(Slot { epoch, group }).is_some(), true);
+        same(&rt, merge.held(Slot { epoch, group }).is_some(), true);
     }
     merge.discard_epoch(0);
     for (epoch, group, there) in [(0, 0, false), (0, 1, false), (0, 2, true), (1, 0, true)] {
-        assert_eq!(rt; merge.held(Slot { epoch, group }).is_some(), there);
+        same(&rt, merge.held(Slot { epoch, group }).is_some(), there);
     }
-    assert_eq!(rt; merge.next(), Some(1));
-    assert_eq!(rt; hold(alloc, &mut merge, 0, 1, &[6])?, true);
-    assert_eq!(rt; hold(alloc, &mut merge, 0, 1, &[5])?, false);
+    same(&rt, merge.next(), Some(1));
+    same(&rt, hold(alloc, &mut merge, 0, 1, &[6])?, true);
+    same(&rt, hold(alloc, &mut merge, 0, 1, &[5])?, false);
     Ok(())
 }
 
@@ -142,11 +143,11 @@ fn a_missing_batch(rt: HostRuntime) -> Result<(), Fail> {
     hold(alloc, &mut merge, 0, 2, &[3])?;
     merge.reserve_take_epoch()?;
     let refused = merge.take_epoch();
-    assert_eq!(rt; refused.is_err(), true);
+    same(&rt, refused.is_err(), true);
     if let Err(fault) = refused {
-        assert_eq!(rt; fault.number(), 34);
+        same(&rt, fault.number(), 34);
     }
-    assert_eq!(rt; merge.next(), Some(0));
+    same(&rt, merge.next(), Some(0));
     hold(alloc, &mut merge, 0, 1, &[4])?;
     gives(&rt, &mut merge, 0, &[1, 4])?;
     Ok(())
@@ -164,20 +165,20 @@ fn several_epochs(rt: HostRuntime) -> Result<(), Fail> {
         (1, 1, 4),
         (0, 0, 1),
     ] {
-        assert_eq!(rt; hold(alloc, &mut merge, epoch, group, &[number])?, true);
+        same(&rt, hold(alloc, &mut merge, epoch, group, &[number])?, true);
     }
     gives(&rt, &mut merge, 0, &[1, 2])?;
     gives(&rt, &mut merge, 1, &[3, 4])?;
     gives(&rt, &mut merge, 2, &[5, 6])?;
-    assert_eq!(rt; merge.next(), Some(3));
-    assert_eq!(rt; merge.take_epoch().is_err(), true);
+    same(&rt, merge.next(), Some(3));
+    same(&rt, merge.take_epoch().is_err(), true);
     Ok(())
 }
 
 /// No epoch is left, though one is held.
 fn is_spent(rt: &impl Abort, merge: &mut Merge<u32>) {
-    assert_eq!(rt; merge.next(), None);
-    assert_eq!(rt; merge.pass_epoch(), Err(Fault::NotComplete));
+    same(rt, merge.next(), None);
+    same(rt, merge.pass_epoch(), Err(Fault::NotComplete));
 }
 
 #[test]
@@ -185,11 +186,11 @@ fn past_the_last_epoch(rt: HostRuntime) -> Result<(), Fail> {
     let alloc = rt.alloc();
     let config = Config::new(1, 1)?;
     let mut last = Merge::from_epoch(alloc, &config, Some(u64::MAX));
-    assert_eq!(rt; hold(alloc, &mut last, u64::MAX, 0, &[1])?, true);
+    same(&rt, hold(alloc, &mut last, u64::MAX, 0, &[1])?, true);
     gives(&rt, &mut last, u64::MAX, &[1])?;
     is_spent(&rt, &mut last);
     let mut spent = Merge::from_epoch(alloc, &config, None);
-    assert_eq!(rt; hold(alloc, &mut spent, u64::MAX, 0, &[1])?, true);
+    same(&rt, hold(alloc, &mut spent, u64::MAX, 0, &[1])?, true);
     is_spent(&rt, &mut spent);
     Ok(())
 }
@@ -201,7 +202,7 @@ fn reserved(rt: HostRuntime) -> Result<(), Fail> {
     for epoch in 0..40 {
         let numbers = batch(alloc, &[1, 2, 3])?;
         merge.reserve_hold()?;
-        assert_eq!(rt; merge.hold(Slot { epoch, group: 0 }, numbers)?, true);
+        same(&rt, merge.hold(Slot { epoch, group: 0 }, numbers)?, true);
         merge.reserve_take_epoch()?;
         gives(&rt, &mut merge, epoch, &[1, 2, 3])?;
     }
@@ -218,17 +219,17 @@ fn refused_once(rt: HostRuntime) -> Result<(), Fail> {
     let mut merge = merge_of(alloc, 1)?;
     let slot = Slot { epoch: 0, group: 0 };
     if let Err(fault) = merge.hold(slot, held) {
-        assert_eq!(rt; fault.number(), 1);
-        assert_eq!(rt; merge.held(slot).is_none(), true);
-        assert_eq!(rt; merge.hold(slot, again)?, true);
+        same(&rt, fault.number(), 1);
+        same(&rt, merge.held(slot).is_none(), true);
+        same(&rt, merge.hold(slot, again)?, true);
     }
     if let Err(fault) = merge.reserve_take_epoch() {
-        assert_eq!(rt; fault.number(), 1);
+        same(&rt, fault.number(), 1);
     }
     match merge.take_epoch() {
-        Ok(taken) => assert_eq!(rt; taken.len(), 3),
+        Ok(taken) => same(&rt, taken.len(), 3),
         Err(fault) => {
-            assert_eq!(rt; fault.number(), 1);
+            same(&rt, fault.number(), 1);
             gives(&rt, &mut merge, 0, &numbers)?;
         }
     }

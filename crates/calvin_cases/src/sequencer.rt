@@ -1,4 +1,5 @@
 //! The worked case `limits` of the queue; what is left over and what is held back, by numbers; and each public call once.
+use crate::checks::same;
 use crate::keys::{refusal, txn};
 use calvin_order::Sequencer;
 use calvin_types::{Batch, Fault, MOST_EPOCHS, RequestId, Txn};
@@ -16,6 +17,16 @@ fn request(alloc: Global, number: u32, attempt: u8) -> Result<Txn<u64>, Fault> {
     })
 }
 
+/// A request of this number is submitted.
+fn submit(alloc: Global, sequencer: &mut Sequencer<u64>, number: u32) -> Result<(), Fault> {
+    sequencer.submit(request(alloc, number, 1)?)
+}
+
+/// A request of this number is submitted, and held back.
+fn submit_cold(alloc: Global, sequencer: &mut Sequencer<u64>, number: u32) -> Result<(), Fault> {
+    sequencer.submit_cold(request(alloc, number, 1)?)
+}
+
 /// Requests that are numbered from `first` on, so many of them, are submitted.
 fn submit_many(
     alloc: Global,
@@ -24,7 +35,7 @@ fn submit_many(
     count: u32,
 ) -> Result<(), Fault> {
     for i in 0..count {
-        sequencer.submit(request(alloc, first.saturating_add(i), 1)?)?;
+        submit(alloc, sequencer, first.saturating_add(i))?;
     }
     Ok(())
 }
@@ -33,12 +44,12 @@ fn submit_many(
 fn has_closed(rt: &impl Abort, sequencer: &Sequencer<u64>, epoch: u64, numbers: &[u32]) {
     match sequencer.closed(epoch) {
         Some(batch) => {
-            assert_eq!(rt; batch.len(), numbers.len(), "epoch {epoch}");
+            same(rt, (epoch, batch.len()), (epoch, numbers.len()));
             for (number, txn) in numbers.iter().zip(batch.as_slice().iter()) {
-                assert_eq!(rt; txn.id.number, *number, "epoch {epoch}");
+                same(rt, (epoch, txn.id.number), (epoch, *number));
             }
         }
-        None => assert!(rt; false, "epoch {epoch} isn't closed"),
+        None => same(rt, (epoch, "open"), (epoch, "closed")),
     }
 }
 
@@ -49,54 +60,89 @@ fn closes(
     epoch: u64,
     numbers: &[u32],
 ) -> Result<(), Fault> {
-    assert_eq!(rt; sequencer.next_epoch(), Some(epoch));
-    assert_eq!(rt; sequencer.close(), Ok(epoch));
+    same(rt, sequencer.next_epoch(), Some(epoch));
+    same(rt, sequencer.close(), Ok(epoch));
     has_closed(rt, sequencer, epoch, numbers);
+    Ok(())
+}
+
+/// The queue is full: a request of this number is refused.
+fn is_full(
+    rt: &impl Abort,
+    alloc: Global,
+    sequencer: &mut Sequencer<u64>,
+    number: u32,
+) -> Result<(), Fault> {
+    let submitted = sequencer.submit(request(alloc, number, 1)?);
+    same(rt, refusal(&submitted), 30);
+    Ok(())
+}
+
+/// A queue takes 4,096 requests.
+fn limit_of_a_queue(
+    rt: &impl Abort,
+    alloc: Global,
+    sequencer: &mut Sequencer<u64>,
+) -> Result<(), Fault> {
+    submit_many(alloc, sequencer, 0, 4096)?;
+    is_full(rt, alloc, sequencer, 4096)?;
+    let submitted = sequencer.submit_cold(request(alloc, 4096, 1)?);
+    same(rt, refusal(&submitted), 30);
+    same(rt, sequencer.queued(), 4096);
+    Ok(())
+}
+
+/// A batch takes 256 requests.
+fn limit_of_a_batch(
+    rt: &impl Abort,
+    alloc: Global,
+    sequencer: &mut Sequencer<u64>,
+) -> Result<(), Fault> {
+    submit_many(alloc, sequencer, 0, 257)?;
+    for (epoch, size, queued) in [(0, 256, 1), (1, 1, 0), (2, 0, 0)] {
+        same(rt, sequencer.close(), Ok(epoch));
+        let closed = sequencer.closed(epoch).map(|batch| batch.len());
+        same(rt, closed, Some(size));
+        same(rt, sequencer.queued(), queued);
+    }
+    has_closed(rt, sequencer, 1, &[256]);
     Ok(())
 }
 
 #[test]
 fn limits(rt: HostRuntime) -> Result<(), Fail> {
-    let alloc = rt.alloc();
-    let mut sequencer = Sequencer::new(alloc, 0);
-    submit_many(alloc, &mut sequencer, 0, 4096)?;
-    assert_eq!(rt; refusal(&sequencer.submit(request(alloc, 4096, 1)?)), 30);
-    assert_eq!(rt;
-        refusal(&sequencer.submit_cold(request(alloc, 4096, 1)?)),
-        30
-    );
-    assert_eq!(rt; sequencer.queued(), 4096);
-
-    let mut sequencer = Sequencer::new(alloc, 0);
-    submit_many(alloc, &mut sequencer, 0, 257)?;
-    for (epoch, size, queued) in [(0, 256, 1), (1, 1, 0), (2, 0, 0)] {
-        assert_eq!(rt; sequencer.close(), Ok(epoch));
-        assert_eq!(rt;
-            sequencer.closed(epoch).map(|batch| batch.len()),
-            Some(size)
-        );
-        assert_eq!(rt; sequencer.queued(), queued);
-    }
-    has_closed(&rt, &sequencer, 1, &[256]);
+    let mut sequencer = Sequencer::new(rt.alloc(), 0);
+    limit_of_a_queue(&rt, rt.alloc(), &mut sequencer)?;
+    let mut sequencer = Sequencer::new(rt.alloc(), 0);
+    limit_of_a_batch(&rt, rt.alloc(), &mut sequencer)?;
     Ok(())
 }
 
-#[test]
-fn what_counts_to_the_limit(rt: HostRuntime) -> Result<(), Fail> {
-    let alloc = rt.alloc();
-    let mut sequencer = Sequencer::new(alloc, 16);
-    submit_many(alloc, &mut sequencer, 0, 4095)?;
-    assert_eq!(rt; sequencer.close(), Ok(0));
-    assert_eq!(rt; sequencer.submit_cold(request(alloc, 4095, 1)?), Ok(()));
-    assert_eq!(rt; (sequencer.queued(), sequencer.held_back()), (3839, 1));
-    assert_eq!(rt; refusal(&sequencer.submit(request(alloc, 4096, 1)?)), 30);
+/// Of 4,096 requests one is held back, and 256 are closed and not decided.
+fn fill(rt: &impl Abort, alloc: Global, sequencer: &mut Sequencer<u64>) -> Result<(), Fault> {
+    submit_many(alloc, sequencer, 0, 4095)?;
+    same(rt, sequencer.close(), Ok(0));
+    same(rt, submit_cold(alloc, sequencer, 4095), Ok(()));
+    same(rt, (sequencer.queued(), sequencer.held_back()), (3839, 1));
+    is_full(rt, alloc, sequencer, 4096)
+}
+
+/// Those that were closed are decided, and make room for as many.
+fn fill_again(rt: &impl Abort, alloc: Global, sequencer: &mut Sequencer<u64>) -> Result<(), Fault> {
     let Some(batch) = sequencer.closed(0) else {
         return Ok(());
     };
     let batch = batch.copy()?;
-    assert_eq!(rt; sequencer.decided(0, &batch), Ok(()));
-    submit_many(alloc, &mut sequencer, 4096, 256)?;
-    assert_eq!(rt; refusal(&sequencer.submit(request(alloc, 5000, 1)?)), 30);
+    same(rt, sequencer.decided(0, &batch), Ok(()));
+    submit_many(alloc, sequencer, 4096, 256)?;
+    is_full(rt, alloc, sequencer, 5000)
+}
+
+#[test]
+fn what_counts_to_the_limit(rt: HostRuntime) -> Result<(), Fail> {
+    let mut sequencer = Sequencer::new(rt.alloc(), 16);
+    fill(&rt, rt.alloc(), &mut sequencer)?;
+    fill_again(&rt, rt.alloc(), &mut sequencer)?;
     Ok(())
 }
 
@@ -118,6 +164,22 @@ fn refusals(
     Ok((refusal(&submitted), refusal(&held_back)))
 }
 
+/// These are the refusals, at once and for some closings, of a request of one key and of one of none.
+fn refuses(
+    rt: &impl Abort,
+    alloc: Global,
+    sequencer: &mut Sequencer<u64>,
+    attempt: u8,
+    keyed: u8,
+    keyless: u8,
+) -> Result<(), Fault> {
+    let found = refusals(alloc, sequencer, &[1], attempt)?;
+    same(rt, (attempt, found), (attempt, (keyed, keyed)));
+    let found = refusals(alloc, sequencer, &[], attempt)?;
+    same(rt, (attempt, found), (attempt, (keyless, keyless)));
+    Ok(())
+}
+
 #[test]
 fn lesser_refusals_first(rt: HostRuntime) -> Result<(), Fail> {
     let alloc = rt.alloc();
@@ -125,15 +187,10 @@ fn lesser_refusals_first(rt: HostRuntime) -> Result<(), Fail> {
     let mut full = Sequencer::new(alloc, 1);
     submit_many(alloc, &mut full, 0, 4096)?;
     for (attempt, keyed, keyless) in [(0, 32, 31), (1, 0, 31), (8, 0, 31), (9, 32, 31)] {
-        assert_eq!(rt; refusals(alloc, &mut empty, &[1], attempt)?, (keyed, keyed));
-        assert_eq!(rt;
-            refusals(alloc, &mut empty, &[], attempt)?,
-            (keyless, keyless)
-        );
-        assert_eq!(rt; refusals(alloc, &mut full, &[1], attempt)?, (30, 30));
-        assert_eq!(rt; refusals(alloc, &mut full, &[], attempt)?, (30, 30));
+        refuses(&rt, alloc, &mut empty, attempt, keyed, keyless)?;
+        refuses(&rt, alloc, &mut full, attempt, 30, 30)?;
     }
-    assert_eq!(rt; (empty.queued(), empty.held_back()), (2, 2));
+    same(&rt, (empty.queued(), empty.held_back()), (2, 2));
     Ok(())
 }
 
@@ -146,6 +203,30 @@ fn batch(alloc: Global, requests: &[(u32, u8)]) -> Result<Batch<u64>, Fault> {
     Batch::new(alloc, txns)
 }
 
+/// These are decided for an epoch.
+fn decide(
+    rt: &impl Abort,
+    alloc: Global,
+    sequencer: &mut Sequencer<u64>,
+    epoch: u64,
+    decided: &[(u32, u8)],
+) -> Result<(), Fault> {
+    let decided = batch(alloc, decided)?;
+    same(rt, sequencer.decided(epoch, &decided), Ok(()));
+    Ok(())
+}
+
+/// Requests 1, 2 and 3 are closed for epoch 0, and 4 is queued.
+fn close_three(
+    rt: &impl Abort,
+    alloc: Global,
+    sequencer: &mut Sequencer<u64>,
+) -> Result<(), Fault> {
+    submit_many(alloc, sequencer, 1, 3)?;
+    closes(rt, sequencer, 0, &[1, 2, 3])?;
+    submit(alloc, sequencer, 4)
+}
+
 /// Requests 1, 2 and 3 are closed for epoch 0, 4 is queued, and these are decided for an epoch: epoch 1 has these numbers.
 fn leaves(
     rt: &impl Abort,
@@ -156,12 +237,10 @@ fn leaves(
     numbers: &[u32],
 ) -> Result<(), Fault> {
     let mut sequencer = Sequencer::new(alloc, 0);
-    submit_many(alloc, &mut sequencer, 1, 3)?;
-    closes(rt, &mut sequencer, 0, &[1, 2, 3])?;
-    submit_many(alloc, &mut sequencer, 4, 1)?;
-    assert_eq!(rt; sequencer.decided(epoch, &batch(alloc, decided)?), Ok(()));
-    assert_eq!(rt; sequencer.decided(epoch, &batch(alloc, &[])?), Ok(()));
-    assert_eq!(rt; sequencer.queued(), numbers.len());
+    close_three(rt, alloc, &mut sequencer)?;
+    decide(rt, alloc, &mut sequencer, epoch, decided)?;
+    decide(rt, alloc, &mut sequencer, epoch, &[])?;
+    same(rt, sequencer.queued(), numbers.len());
     has_closed(rt, &sequencer, 0, &[1, 2, 3]);
     closes(rt, &mut sequencer, next, numbers)
 }
@@ -180,6 +259,26 @@ fn leftover_requests(rt: HostRuntime) -> Result<(), Fail> {
 }
 
 /// Requests 1 and 3 are held back, 2 is queued, a batch is closed; 4 is queued, 5 held back, and more are closed.
+fn closes_in_turn(
+    rt: &impl Abort,
+    alloc: Global,
+    sequencer: &mut Sequencer<u64>,
+    batches: [&[u32]; 5],
+) -> Result<(), Fault> {
+    submit_cold(alloc, sequencer, 1)?;
+    submit(alloc, sequencer, 2)?;
+    submit_cold(alloc, sequencer, 3)?;
+    closes(rt, sequencer, 0, batches[0])?;
+    submit(alloc, sequencer, 4)?;
+    submit_cold(alloc, sequencer, 5)?;
+    for epoch in 1..5 {
+        closes(rt, sequencer, epoch, batches[epoch as usize])?;
+    }
+    same(rt, (sequencer.queued(), sequencer.held_back()), (0, 0));
+    Ok(())
+}
+
+/// The same with this delay.
 fn holds_back(
     rt: &impl Abort,
     alloc: Global,
@@ -187,17 +286,7 @@ fn holds_back(
     batches: [&[u32]; 5],
 ) -> Result<(), Fault> {
     let mut sequencer = Sequencer::new(alloc, delay);
-    sequencer.submit_cold(request(alloc, 1, 1)?)?;
-    sequencer.submit(request(alloc, 2, 1)?)?;
-    sequencer.submit_cold(request(alloc, 3, 1)?)?;
-    closes(rt, &mut sequencer, 0, batches[0])?;
-    sequencer.submit(request(alloc, 4, 1)?)?;
-    sequencer.submit_cold(request(alloc, 5, 1)?)?;
-    for epoch in 1..5 {
-        closes(rt, &mut sequencer, epoch, batches[epoch as usize])?;
-    }
-    assert_eq!(rt; (sequencer.queued(), sequencer.held_back()), (0, 0));
-    Ok(())
+    closes_in_turn(rt, alloc, &mut sequencer, batches)
 }
 
 #[test]
@@ -210,52 +299,78 @@ fn cold_requests(rt: HostRuntime) -> Result<(), Fail> {
     Ok(())
 }
 
-#[test]
-fn refused_closing_counts_for_none(rt: HostRuntime) -> Result<(), Fail> {
-    let alloc = rt.alloc();
-    let mut sequencer = Sequencer::from_epoch(alloc, 2, Some(MOST_EPOCHS - 1));
-    sequencer.submit_cold(request(alloc, 1, 1)?)?;
-    closes(&rt, &mut sequencer, MOST_EPOCHS - 1, &[])?;
+/// The last epoch is closed, and then no more.
+fn close_the_last(
+    rt: &impl Abort,
+    alloc: Global,
+    sequencer: &mut Sequencer<u64>,
+) -> Result<(), Fault> {
+    submit_cold(alloc, sequencer, 1)?;
+    closes(rt, sequencer, MOST_EPOCHS - 1, &[])?;
     for _i in 0..3 {
-        assert_eq!(rt; refusal(&sequencer.close()), 33);
-        assert_eq!(rt; (sequencer.queued(), sequencer.held_back()), (0, 1));
+        same(rt, refusal(&sequencer.close()), 33);
+        same(rt, (sequencer.queued(), sequencer.held_back()), (0, 1));
     }
     Ok(())
 }
 
 #[test]
-fn epochs_that_are_passed(rt: HostRuntime) -> Result<(), Fail> {
-    let alloc = rt.alloc();
-    let mut sequencer: Sequencer<u64> = Sequencer::from_epoch(alloc, 0, Some(3));
-    assert_eq!(rt; sequencer.next_epoch(), Some(3));
+fn refused_closing_counts_for_none(rt: HostRuntime) -> Result<(), Fail> {
+    let mut sequencer = Sequencer::from_epoch(rt.alloc(), 2, Some(MOST_EPOCHS - 1));
+    close_the_last(&rt, rt.alloc(), &mut sequencer)?;
+    Ok(())
+}
+
+/// Epochs are decided before they are closed: each is passed when those before it are.
+fn pass_epochs(
+    rt: &impl Abort,
+    alloc: Global,
+    sequencer: &mut Sequencer<u64>,
+) -> Result<(), Fault> {
+    same(rt, sequencer.next_epoch(), Some(3));
     for (decided, next) in [(5, 3), (4, 3), (2, 3), (3, 6), (3, 6)] {
-        assert_eq!(rt; sequencer.decided(decided, &batch(alloc, &[])?), Ok(()));
-        assert_eq!(rt; sequencer.next_epoch(), Some(next));
+        decide(rt, alloc, sequencer, decided, &[])?;
+        same(rt, sequencer.next_epoch(), Some(next));
     }
-    closes(&rt, &mut sequencer, 6, &[])?;
-    assert_eq!(rt; sequencer.closed(5).is_none(), true);
+    closes(rt, sequencer, 6, &[])?;
+    same(rt, sequencer.closed(5).is_none(), true);
+    Ok(())
+}
+
+#[test]
+fn epochs_that_are_passed(rt: HostRuntime) -> Result<(), Fail> {
+    let mut sequencer = Sequencer::from_epoch(rt.alloc(), 0, Some(3));
+    pass_epochs(&rt, rt.alloc(), &mut sequencer)?;
     Ok(())
 }
 
 #[test]
 fn past_the_last_epoch(rt: HostRuntime) {
     let mut spent: Sequencer<u64> = Sequencer::from_epoch(rt.alloc(), 0, None);
-    assert_eq!(rt; spent.next_epoch(), None);
-    assert_eq!(rt; refusal(&spent.close()), 33);
+    same(&rt, spent.next_epoch(), None);
+    same(&rt, refusal(&spent.close()), 33);
+}
+
+/// Each call, after the one that makes room for it.
+fn reserve_each(
+    rt: &impl Abort,
+    alloc: Global,
+    sequencer: &mut Sequencer<u64>,
+) -> Result<(), Fault> {
+    same(rt, sequencer.reserve_submit(), Ok(()));
+    submit(alloc, sequencer, 1)?;
+    same(rt, sequencer.reserve_submit_cold(), Ok(()));
+    submit_cold(alloc, sequencer, 2)?;
+    same(rt, sequencer.reserve_close(), Ok(()));
+    closes(rt, sequencer, 0, &[1])?;
+    same(rt, sequencer.reserve_decided(0), Ok(()));
+    decide(rt, alloc, sequencer, 0, &[])?;
+    closes(rt, sequencer, 1, &[1, 2])
 }
 
 #[test]
 fn room_made_first(rt: HostRuntime) -> Result<(), Fail> {
-    let alloc = rt.alloc();
-    let mut sequencer = Sequencer::new(alloc, 1);
-    assert_eq!(rt; sequencer.reserve_submit(), Ok(()));
-    sequencer.submit(request(alloc, 1, 1)?)?;
-    assert_eq!(rt; sequencer.reserve_submit_cold(), Ok(()));
-    sequencer.submit_cold(request(alloc, 2, 1)?)?;
-    assert_eq!(rt; sequencer.reserve_close(), Ok(()));
-    closes(&rt, &mut sequencer, 0, &[1])?;
-    assert_eq!(rt; sequencer.reserve_decided(0), Ok(()));
-    assert_eq!(rt; sequencer.decided(0, &batch(alloc, &[])?), Ok(()));
-    closes(&rt, &mut sequencer, 1, &[1, 2])?;
+    let mut sequencer = Sequencer::new(rt.alloc(), 1);
+    reserve_each(&rt, rt.alloc(), &mut sequencer)?;
     Ok(())
 }

@@ -1,4 +1,5 @@
 //! The roles of one replica, with exact ballots and batches, and each call once with ample memory.
+use crate::checks::{holds, same};
 use crate::keys::refusal;
 use calvin_synod::{Acceptor, Learner, Member, Message, Proposer, Recorded, Vote};
 use calvin_types::{Ballot, Batch, Config, Fault, Slot};
@@ -29,7 +30,7 @@ fn told<T>(answer: Result<T, Fault>) -> Result<T, u8> {
 
 /// Asks for a promise, and compares what stands in its way.
 fn prepares(rt: &impl Abort, acceptor: &mut Acceptor<u32>, ballot: Ballot, bar: Option<Ballot>) {
-    assert_eq!(rt; told(acceptor.prepare(SLOT, ballot)), Ok(bar));
+    same(rt, told(acceptor.prepare(SLOT, ballot)), Ok(bar));
 }
 
 /// Asks for a vote, and compares what stands in its way.
@@ -40,19 +41,19 @@ fn accepts(
     batch: u32,
     bar: Option<Ballot>,
 ) {
-    assert_eq!(rt; told(acceptor.accept(SLOT, ballot, batch)), Ok(bar));
+    same(rt, told(acceptor.accept(SLOT, ballot, batch)), Ok(bar));
 }
 
 /// Compares what is recorded of the slot: the promise, and a vote for the batch.
 fn records(rt: &impl Abort, acceptor: &Acceptor<u32>, promise: Ballot, vote: Option<Vote<u32>>) {
     let want = Recorded { promise, vote };
-    assert!(rt; acceptor.recorded(SLOT) == Some(&want));
+    holds(rt, acceptor.recorded(SLOT) == Some(&want));
 }
 
 #[test]
 fn acceptor(rt: HostRuntime) {
     let mut acceptor: Acceptor<u32> = Acceptor::new(rt.alloc());
-    assert!(rt; acceptor.recorded(SLOT).is_none());
+    holds(&rt, acceptor.recorded(SLOT).is_none());
     prepares(&rt, &mut acceptor, at(1, 1), None);
     prepares(&rt, &mut acceptor, at(1, 1), Some(at(1, 1)));
     prepares(&rt, &mut acceptor, at(1, 0), Some(at(1, 1)));
@@ -62,7 +63,7 @@ fn acceptor(rt: HostRuntime) {
     records(&rt, &acceptor, at(2, 0), vote(1, 1, 7));
     accepts(&rt, &mut acceptor, at(3, 2), 8, None);
     records(&rt, &acceptor, at(3, 2), vote(3, 2, 8));
-    assert!(rt; acceptor.recorded(Slot { group: 0, ..SLOT }).is_none());
+    holds(&rt, acceptor.recorded(Slot { group: 0, ..SLOT }).is_none());
 }
 
 fn proposer_of(alloc: Global, replicas: u8, greatest: u32) -> Result<Proposer<u32>, Fault> {
@@ -71,7 +72,7 @@ fn proposer_of(alloc: Global, replicas: u8, greatest: u32) -> Result<Proposer<u3
 
 /// Begins a ballot for a batch, and compares its answer.
 fn starts(rt: &impl Abort, proposer: &mut Proposer<u32>, batch: u32, want: Result<Ballot, u8>) {
-    assert_eq!(rt; told(proposer.start(SLOT, batch)), want);
+    same(rt, told(proposer.start(SLOT, batch)), want);
 }
 
 /// Takes a promise, and compares the answer.
@@ -83,12 +84,16 @@ fn promises(
     vote: Option<Vote<u32>>,
     want: Result<Option<u32>, u8>,
 ) {
-    assert_eq!(rt; told(proposer.on_promise(from, SLOT, ballot, vote)), want);
+    same(
+        rt,
+        told(proposer.on_promise(from, SLOT, ballot, vote)),
+        want,
+    );
 }
 
 /// Takes a refusal, and compares the answer.
 fn refused(rt: &impl Abort, proposer: &mut Proposer<u32>, promise: Ballot, want: Result<(), u8>) {
-    assert_eq!(rt; told(proposer.on_refused(promise)), want);
+    same(rt, told(proposer.on_refused(promise)), want);
 }
 
 /// Compares the batch that a promise would make due.
@@ -100,16 +105,19 @@ fn owes(
     vote: Option<&Vote<u32>>,
     batch: u32,
 ) {
-    assert!(rt; told(proposer.due(from, SLOT, ballot, vote)) == Ok(Some(&batch)));
+    holds(
+        rt,
+        told(proposer.due(from, SLOT, ballot, vote)) == Ok(Some(&batch)),
+    );
 }
 
 #[test]
 fn own_batch_where_none_is_reported(rt: HostRuntime) -> Result<(), Fail> {
     let mut proposer = proposer_of(rt.alloc(), 5, 0)?;
     let ballot = at(1, 2);
-    assert_eq!(rt; told(proposer.next_ballot()), Ok(ballot));
+    same(&rt, told(proposer.next_ballot()), Ok(ballot));
     starts(&rt, &mut proposer, 7, Ok(ballot));
-    assert_eq!(rt; proposer.greatest(), 1);
+    same(&rt, proposer.greatest(), 1);
     promises(&rt, &mut proposer, 0, ballot, None, Ok(None));
     promises(&rt, &mut proposer, 0, ballot, None, Err(21));
     promises(&rt, &mut proposer, 1, at(1, 1), None, Err(21));
@@ -175,7 +183,7 @@ fn rounds(rt: HostRuntime) -> Result<(), Fail> {
     refused(&rt, &mut proposer, at(4, 9), Err(21));
     refused(&rt, &mut proposer, at(8, 0), Ok(()));
     refused(&rt, &mut proposer, at(8, 1), Err(21));
-    assert_eq!(rt; proposer.greatest(), 4);
+    same(&rt, proposer.greatest(), 4);
     starts(&rt, &mut proposer, 7, Ok(at(9, 2)));
     starts(&rt, &mut proposer, 8, Ok(at(10, 2)));
     promises(&rt, &mut proposer, 0, at(9, 2), None, Err(21));
@@ -183,7 +191,7 @@ fn rounds(rt: HostRuntime) -> Result<(), Fail> {
     refused(&rt, &mut proposer, at(4294967294, 0), Ok(()));
     starts(&rt, &mut proposer, 7, Ok(at(4294967295, 2)));
     starts(&rt, &mut proposer, 7, Err(20));
-    assert_eq!(rt; told(proposer.next_ballot()), Err(20));
+    same(&rt, told(proposer.next_ballot()), Err(20));
     Ok(())
 }
 
@@ -196,7 +204,7 @@ fn counts(
     ballot: Ballot,
     want: Result<Option<u32>, u8>,
 ) {
-    assert_eq!(rt; told(learner.on_vote(from, slot, ballot, 7)), want);
+    same(rt, told(learner.on_vote(from, slot, ballot, 7)), want);
 }
 
 #[test]
@@ -206,8 +214,8 @@ fn learner(rt: HostRuntime) -> Result<(), Fail> {
     counts(&rt, &mut learner, 0, SLOT, at(1, 0), Err(22));
     counts(&rt, &mut learner, 0, SLOT, at(2, 0), Ok(None));
     counts(&rt, &mut learner, 1, SLOT, at(1, 0), Ok(None));
-    assert_eq!(rt; told(learner.completes(2, SLOT, at(2, 0))), Ok(false));
-    assert_eq!(rt; told(learner.completes(2, SLOT, at(1, 0))), Ok(true));
+    same(&rt, told(learner.completes(2, SLOT, at(2, 0))), Ok(false));
+    same(&rt, told(learner.completes(2, SLOT, at(1, 0))), Ok(true));
     counts(&rt, &mut learner, 2, SLOT, at(1, 0), Ok(Some(7)));
     counts(&rt, &mut learner, 3, SLOT, at(1, 0), Err(22));
     counts(&rt, &mut learner, 3, SLOT, at(2, 0), Err(22));
@@ -230,9 +238,9 @@ fn votes_reserved(
     ballot: Ballot,
 ) -> Result<(), Fault> {
     acceptor.reserve_prepare()?;
-    assert_eq!(rt; told(acceptor.prepare(slot, ballot)), Ok(None));
+    same(rt, told(acceptor.prepare(slot, ballot)), Ok(None));
     acceptor.reserve_accept()?;
-    assert_eq!(rt; told(acceptor.accept(slot, ballot, 7)), Ok(None));
+    same(rt, told(acceptor.accept(slot, ballot, 7)), Ok(None));
     Ok(())
 }
 
@@ -276,6 +284,12 @@ fn reserved(rt: HostRuntime) -> Result<(), Fail> {
 /// Replica 2 of three, which proposed for the slot, promised its own ballot, and counted the vote of replica 0 at it.
 fn begun(alloc: Global, config: &Config, ballot: Ballot) -> Result<Member<u64>, Fault> {
     let mut member = Member::new(alloc, config, 2);
+    begin(alloc, &mut member, ballot)?;
+    Ok(member)
+}
+
+/// A member proposes an empty batch, and gets a Prepare and a vote at this ballot.
+fn begin(alloc: Global, member: &mut Member<u64>, ballot: Ballot) -> Result<(), Fault> {
     let batch = Batch::new(alloc, Vec::new(alloc))?;
     member.propose(SLOT, batch.copy()?)?;
     member.take(2, Message::Prepare { slot: SLOT, ballot })?;
@@ -287,7 +301,7 @@ fn begun(alloc: Global, config: &Config, ballot: Ballot) -> Result<Member<u64>, 
             batch,
         },
     )?;
-    Ok(member)
+    Ok(())
 }
 
 /// A replica that is opened from its record goes on with its promise and above its round, and has counted nothing.
@@ -296,20 +310,21 @@ fn opened_from_a_record(rt: HostRuntime) -> Result<(), Fail> {
     let config = Config::new(1, 3)?;
     let ballot = at(1, 2);
     let member = begun(rt.alloc(), &config, ballot)?;
-    assert_eq!(rt; told(member.completes(0, SLOT, ballot)), Err(22));
-    assert_eq!(rt; told(member.completes(1, SLOT, ballot)), Ok(true));
+    same(&rt, told(member.completes(0, SLOT, ballot)), Err(22));
+    same(&rt, told(member.completes(1, SLOT, ballot)), Ok(true));
     let mut opened = Member::from_record(rt.alloc(), &config, 2, member.into_record());
-    assert_eq!(rt; told(opened.completes(0, SLOT, ballot)), Ok(false));
-    assert_eq!(rt;
+    same(&rt, told(opened.completes(0, SLOT, ballot)), Ok(false));
+    same(
+        &rt,
         opened.recorded(SLOT).map(|recorded| recorded.promise),
-        Some(ballot)
+        Some(ballot),
     );
     let refused = Message::Refused {
         slot: SLOT,
         ballot,
         promise: ballot,
     };
-    assert_eq!(rt; refusal(&opened.take(0, refused)), 21);
+    same(&rt, refusal(&opened.take(0, refused)), 21);
     Ok(())
 }
 
@@ -324,5 +339,5 @@ fn messages(rt: HostRuntime) {
         ballot: at(1, 0),
         batch: 7,
     };
-    assert!(rt; first != second);
+    holds(&rt, first != second);
 }
