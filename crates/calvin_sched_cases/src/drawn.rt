@@ -1,5 +1,6 @@
 //! Drawn lists of steps, with losses, repeats, steps out of order and refused ones, compared with a plain evaluation: what
 //! came of each step, where each partition stands, and its rows.
+use crate::checks::same;
 use crate::drawing::{Placed, draw, order, rest, step};
 use crate::plain::{End, PlainReplica};
 use calvin_app::{Answer, Kv, KvReply, View};
@@ -111,13 +112,13 @@ fn compare_state<L: Locks + Drop, S: Rows<u64> + Drop>(
     plain: &PlainReplica,
 ) -> Result<(), Fault> {
     for p in 0..count {
-        assert_eq!(rt; replica.stands_at(p)?, plain.stands_at(p), "partition {p}");
+        same(rt, (p, replica.stands_at(p)?), (p, plain.stands_at(p)));
         let rows = plain.rows(p);
         let kept = replica.rows(p)?;
-        assert_eq!(rt; kept.len(), rows.len(), "rows of {p}");
+        same(rt, (p, kept.len()), (p, rows.len()));
         for (id, value) in rows {
             let key = Key { table: 0, id: *id };
-            assert_eq!(rt; kept.get(&key), Some(*value), "row {id} of {p}");
+            same(rt, (id, p, kept.get(&key)), (id, p, Some(*value)));
         }
     }
     Ok(())
@@ -133,13 +134,47 @@ fn compare_steps<L: Locks + Drop, S: Rows<u64> + Drop>(
     reached: &mut Reached,
 ) -> Result<(), Fault> {
     let outcomes = replica.run(steps)?;
-    assert_eq!(rt; outcomes.len(), steps.len());
+    same(rt, outcomes.len(), steps.len());
     for (outcome, step) in outcomes.iter().zip(steps) {
         let wanted = plain.step(*step)?;
-        assert!(rt; end_of(outcome) == wanted, "{step:?}");
+        same(rt, (step, end_of(outcome) == wanted), (step, true));
         reached.note(wanted)?;
     }
     compare_state(rt, count, replica, plain)
+}
+
+/// A few steps, drawn where the plain evaluation stands.
+fn drawn_steps(
+    generator: &mut Pcg32,
+    alloc: Global,
+    config: &Config,
+    entries: &[Placed],
+    plain: &PlainReplica,
+) -> Result<Vec<Step>, Fault> {
+    let mut steps = Vec::new(alloc);
+    for _ in 0..draw(generator, 12).saturating_add(1) {
+        steps.push(step(generator, config, entries, plain))?;
+    }
+    Ok(steps)
+}
+
+/// All that is left to be done, which isn't counted.
+fn compare_rest<L: Locks + Drop, S: Rows<u64> + Drop>(
+    rt: &impl Abort,
+    alloc: Global,
+    count: u8,
+    entries: &[Placed],
+    replica: &mut OneReplica<Kv, L, S>,
+    plain: &mut PlainReplica,
+) -> Result<(), Fault> {
+    let steps = rest(alloc, count, entries)?;
+    let mut after = Reached::new(alloc);
+    compare_steps(rt, count, steps.as_slice(), replica, plain, &mut after)?;
+    let last = entries.last().map(|entry| entry.0.epoch);
+    for p in 0..count {
+        same(rt, (p, plain.stands_at(p)), (p, last));
+    }
+    Ok(())
 }
 
 /// An order and steps that are drawn from a start number, a few steps at a time, and then all that is left to be done, which
@@ -163,10 +198,7 @@ fn compare<L: Locks + Drop, S: Rows<u64> + Drop>(
     let mut plain = PlainReplica::new(alloc, count, copy_of(alloc, entries.as_slice())?)?;
     compare_state(rt, count, &replica, &plain)?;
     for _ in 0..(count as u32).saturating_mul(16).saturating_add(16) {
-        let mut steps = Vec::new(alloc);
-        for _ in 0..draw(&mut generator, 12).saturating_add(1) {
-            steps.push(step(&mut generator, &config, entries.as_slice(), &plain))?;
-        }
+        let steps = drawn_steps(&mut generator, alloc, &config, entries.as_slice(), &plain)?;
         compare_steps(
             rt,
             count,
@@ -176,21 +208,14 @@ fn compare<L: Locks + Drop, S: Rows<u64> + Drop>(
             reached,
         )?;
     }
-    let steps = rest(alloc, count, entries.as_slice())?;
-    let mut after = Reached::new(alloc);
-    compare_steps(
+    compare_rest(
         rt,
+        alloc,
         count,
-        steps.as_slice(),
+        entries.as_slice(),
         &mut replica,
         &mut plain,
-        &mut after,
-    )?;
-    let last = entries.last().map(|entry| entry.0.epoch);
-    for p in 0..count {
-        assert_eq!(rt; plain.stands_at(p), last, "partition {p}");
-    }
-    Ok(())
+    )
 }
 
 fn copy_of(alloc: Global, entries: &[Placed]) -> Result<Vec<Placed>, Fault> {
@@ -201,20 +226,14 @@ fn copy_of(alloc: Global, entries: &[Placed]) -> Result<Vec<Placed>, Fault> {
     Ok(copy)
 }
 
-#[test]
-fn as_the_plain_evaluation(rt: HostRuntime) -> Result<(), Fail> {
-    let alloc = rt.alloc();
-    let mut reached = Reached::new(alloc);
-    for count in [1, 2, 3, 5] {
-        for start in 1..21 {
-            compare::<ListLocks, PlainRows<u64>>(&rt, alloc, count, start, &mut reached)?;
-            compare::<QueueLocks, PlainRows<u64>>(&rt, alloc, count, start, &mut reached)?;
-            compare::<ListLocks, ListRows<u64>>(&rt, alloc, count, start, &mut reached)?;
-            compare::<QueueLocks, ListRows<u64>>(&rt, alloc, count, start, &mut reached)?;
-        }
-    }
+/// More than a fourth of the steps had an effect, and each kind of end came.
+fn check_reached(rt: &impl Abort, reached: &Reached) {
     let (steps, effects) = (reached.steps, reached.effects);
-    assert!(rt; steps / 4 < effects, "{effects} of {steps}");
+    same(
+        rt,
+        (effects, steps, steps / 4 < effects),
+        (effects, steps, true),
+    );
     let kinds = [
         Kind::Admitted,
         Kind::Served,
@@ -236,7 +255,22 @@ fn as_the_plain_evaluation(rt: HostRuntime) -> Result<(), Fail> {
         Kind::Refused(60),
     ];
     for (i, kind) in kinds.iter().enumerate() {
-        assert!(rt; reached.kinds.contains(kind), "kind {i} didn't come");
+        same(rt, (i, reached.kinds.contains(kind)), (i, true));
     }
+}
+
+#[test]
+fn as_the_plain_evaluation(rt: HostRuntime) -> Result<(), Fail> {
+    let alloc = rt.alloc();
+    let mut reached = Reached::new(alloc);
+    for count in [1, 2, 3, 5] {
+        for start in 1..21 {
+            compare::<ListLocks, PlainRows<u64>>(&rt, alloc, count, start, &mut reached)?;
+            compare::<QueueLocks, PlainRows<u64>>(&rt, alloc, count, start, &mut reached)?;
+            compare::<ListLocks, ListRows<u64>>(&rt, alloc, count, start, &mut reached)?;
+            compare::<QueueLocks, ListRows<u64>>(&rt, alloc, count, start, &mut reached)?;
+        }
+    }
+    check_reached(&rt, &reached);
     Ok(())
 }

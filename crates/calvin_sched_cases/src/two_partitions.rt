@@ -1,4 +1,5 @@
 //! One replica of two partitions: key 1 is stored in partition 1, key 2 in partition 0.
+use crate::checks::{holds, same};
 use crate::shown::{Shown, entry, key, place, show};
 use calvin_app::{Answer, Kv, KvReply, KvRequest};
 use calvin_bench::{OneReplica, Step};
@@ -17,15 +18,54 @@ fn compare<L: Locks + Drop>(
     expected: &[Shown],
 ) -> Result<(), Fault> {
     let outcomes = replica.run(steps)?;
-    assert_eq!(rt; outcomes.len(), expected.len());
+    same(rt, outcomes.len(), expected.len());
     for (i, outcome) in outcomes.iter().enumerate() {
-        assert_eq!(rt; Some(show(outcome)), expected.get(i).copied(), "step {i}");
+        same(rt, (i, Some(show(outcome))), (i, expected.get(i).copied()));
     }
     Ok(())
 }
 
 fn done() -> Shown {
     Shown::Answered(Answer::Reply(KvReply::Done))
+}
+
+/// The last step of the move, and what is refused after it.
+fn finish_exchange<L: Locks + Drop>(
+    rt: &impl Abort,
+    replica: &mut OneReplica<Kv, L, PlainRows<u64>>,
+) -> Result<(), Fault> {
+    same(rt, replica.stands_at(0)?, Some(0));
+    same(rt, replica.stands_at(1)?, None);
+    compare(
+        rt,
+        replica,
+        &[
+            Step::Finish(1, place(1)),
+            Step::Admit(1),
+            Step::Reads(0, 1, place(2)),
+            Step::Admit(2),
+        ],
+        &[
+            done(),
+            Shown::Refused(48),
+            Shown::Refused(47),
+            Shown::Refused(60),
+        ],
+    )?;
+    same(rt, replica.stands_at(1)?, Some(0));
+    Ok(())
+}
+
+/// The rows of both partitions after the move.
+fn compare_moved<L: Locks + Drop>(
+    rt: &impl Abort,
+    replica: &OneReplica<Kv, L, PlainRows<u64>>,
+) -> Result<(), Fault> {
+    same(rt, replica.rows(0)?.get(&key(2)), Some(4));
+    same(rt, replica.rows(0)?.len(), 1);
+    same(rt, replica.rows(1)?.get(&key(1)), Some(6));
+    same(rt, replica.rows(1)?.len(), 1);
+    Ok(())
 }
 
 /// A number is put in one partition, and then moved to the other.
@@ -69,30 +109,8 @@ fn exchange<L: Locks + Drop>(rt: &impl Abort, alloc: Global) -> Result<(), Fault
         done(),
     ];
     compare(rt, &mut replica, &steps, &expected)?;
-    assert_eq!(rt; replica.stands_at(0)?, Some(0));
-    assert_eq!(rt; replica.stands_at(1)?, None);
-    compare(
-        rt,
-        &mut replica,
-        &[
-            Step::Finish(1, place(1)),
-            Step::Admit(1),
-            Step::Reads(0, 1, place(2)),
-            Step::Admit(2),
-        ],
-        &[
-            done(),
-            Shown::Refused(48),
-            Shown::Refused(47),
-            Shown::Refused(60),
-        ],
-    )?;
-    assert_eq!(rt; replica.stands_at(1)?, Some(0));
-    assert_eq!(rt; replica.rows(0)?.get(&key(2)), Some(4));
-    assert_eq!(rt; replica.rows(0)?.len(), 1);
-    assert_eq!(rt; replica.rows(1)?.get(&key(1)), Some(6));
-    assert_eq!(rt; replica.rows(1)?.len(), 1);
-    Ok(())
+    finish_exchange(rt, &mut replica)?;
+    compare_moved(rt, &replica)
 }
 
 #[test]
@@ -102,19 +120,14 @@ fn two_partitions_exchange(rt: HostRuntime) -> Result<(), Fail> {
     Ok(())
 }
 
-/// Rows of both partitions are read, and nothing is written: partition 0 answers, and partition 1 is done once it has read.
-fn passive<L: Locks + Drop>(rt: &impl Abort, alloc: Global) -> Result<(), Fault> {
-    let mut keys = KeySet::new();
-    keys.insert(key(2))?;
-    keys.insert(key(3))?;
-    let order = vec![in alloc; entry(0, KvRequest::Get(keys))]?;
-    let config = Config::new(2, 1)?;
-    let mut replica: OneReplica<Kv, L, PlainRows<u64>> = OneReplica::new(
-        alloc, Kv, &config, order,
-    )?;
+/// Partition 1 is done once it has read.
+fn read_in_one<L: Locks + Drop>(
+    rt: &impl Abort,
+    replica: &mut OneReplica<Kv, L, PlainRows<u64>>,
+) -> Result<(), Fault> {
     compare(
         rt,
-        &mut replica,
+        replica,
         &[
             Step::Admit(0),
             Step::Admit(1),
@@ -132,14 +145,22 @@ fn passive<L: Locks + Drop>(rt: &impl Abort, alloc: Global) -> Result<(), Fault>
             Shown::Refused(47),
         ],
     )?;
-    assert_eq!(rt; replica.stands_at(0)?, None);
-    assert_eq!(rt; replica.stands_at(1)?, Some(0));
+    same(rt, replica.stands_at(0)?, None);
+    same(rt, replica.stands_at(1)?, Some(0));
+    Ok(())
+}
+
+/// Partition 0 answers, with what partition 1 has sent.
+fn answered_in_zero<L: Locks + Drop>(
+    rt: &impl Abort,
+    replica: &mut OneReplica<Kv, L, PlainRows<u64>>,
+) -> Result<(), Fault> {
     let mut values: Few<Option<u64>> = Few::new();
     values.push(None);
     values.push(None);
     compare(
         rt,
-        &mut replica,
+        replica,
         &[
             Step::Begin(0, place(0)),
             Step::Reads(1, 0, place(0)),
@@ -155,8 +176,22 @@ fn passive<L: Locks + Drop>(rt: &impl Abort, alloc: Global) -> Result<(), Fault>
             Shown::Answered(Answer::Reply(KvReply::Values(values))),
         ],
     )?;
-    assert_eq!(rt; replica.stands_at(0)?, Some(0));
+    same(rt, replica.stands_at(0)?, Some(0));
     Ok(())
+}
+
+/// Rows of both partitions are read, and nothing is written: partition 0 answers, and partition 1 is done once it has read.
+fn passive<L: Locks + Drop>(rt: &impl Abort, alloc: Global) -> Result<(), Fault> {
+    let mut keys = KeySet::new();
+    keys.insert(key(2))?;
+    keys.insert(key(3))?;
+    let order = vec![in alloc; entry(0, KvRequest::Get(keys))]?;
+    let config = Config::new(2, 1)?;
+    let mut replica: OneReplica<Kv, L, PlainRows<u64>> = OneReplica::new(
+        alloc, Kv, &config, order,
+    )?;
+    read_in_one(rt, &mut replica)?;
+    answered_in_zero(rt, &mut replica)
 }
 
 #[test]
@@ -178,8 +213,8 @@ fn order_that_doesnt_rise(rt: HostRuntime) -> Result<(), Fail> {
         alloc, Kv, &config, order,
     );
     match refused {
-        Ok(_replica) => assert!(rt; false),
-        Err(fault) => assert_eq!(rt; fault.number(), 40),
+        Ok(_replica) => holds(&rt, false),
+        Err(fault) => same(&rt, fault.number(), 40),
     }
     Ok(())
 }
