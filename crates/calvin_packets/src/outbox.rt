@@ -122,8 +122,6 @@ impl<A: App> Outbox<A> {
         ensures packets { self.new.packets ≡ take first self.old.packets }
         ensures room { self.old.room ≤ self.new.room }
     {
-        while self.packets.len() > first {
-            let _taken_back = self.packets.pop();
-        }
+        self.packets.truncate(first);
     }
 }
