@@ -180,17 +180,27 @@ fn refuses(
     Ok(())
 }
 
+/// What an empty queue refuses is told, and of a full one only that it is full.
+fn refuse_by_attempts(
+    rt: &impl Abort,
+    alloc: Global,
+    empty: &mut Sequencer<u64>,
+    full: &mut Sequencer<u64>,
+) -> Result<(), Fault> {
+    submit_many(alloc, full, 0, 4096)?;
+    for (attempt, keyed, keyless) in [(0, 32, 31), (1, 0, 31), (8, 0, 31), (9, 32, 31)] {
+        refuses(rt, alloc, empty, attempt, keyed, keyless)?;
+        refuses(rt, alloc, full, attempt, 30, 30)?;
+    }
+    same(rt, (empty.queued(), empty.held_back()), (2, 2));
+    Ok(())
+}
+
 #[test]
 fn lesser_refusals_first(rt: HostRuntime) -> Result<(), Fail> {
-    let alloc = rt.alloc();
-    let mut empty = Sequencer::new(alloc, 1);
-    let mut full = Sequencer::new(alloc, 1);
-    submit_many(alloc, &mut full, 0, 4096)?;
-    for (attempt, keyed, keyless) in [(0, 32, 31), (1, 0, 31), (8, 0, 31), (9, 32, 31)] {
-        refuses(&rt, alloc, &mut empty, attempt, keyed, keyless)?;
-        refuses(&rt, alloc, &mut full, attempt, 30, 30)?;
-    }
-    same(&rt, (empty.queued(), empty.held_back()), (2, 2));
+    let mut empty = Sequencer::new(rt.alloc(), 1);
+    let mut full = Sequencer::new(rt.alloc(), 1);
+    refuse_by_attempts(&rt, rt.alloc(), &mut empty, &mut full)?;
     Ok(())
 }
 
