@@ -1,5 +1,6 @@
 //! How the nodes of a group agree on a batch, with exact packet numbers. There is one partition, so a node's number is its
 //! replica.
+use crate::checks::{holds, same};
 use crate::letters::{
     SLOT, X, accept, accepted, at, batch_x, check_letter, prepare, promise, refused,
 };
@@ -80,7 +81,7 @@ fn up_to_the_new_accepts(rt: &impl Abort, alloc: Global) -> Result<Nodes<ListLoc
             accept(alloc, at(1, 1))?,
         );
     }
-    assert_eq!(rt; nodes.packets().len(), 19);
+    same(rt, nodes.packets().len(), 19);
     Ok(nodes)
 }
 
@@ -104,7 +105,7 @@ fn old_ballot_refused(rt: HostRuntime) -> Result<(), Fail> {
     check_letter(&rt, &nodes, 22, 2, 1, prepare(1, 2));
     nodes.run(&rt, &[Step::Deliver(22)]);
     check_letter(&rt, &nodes, 24, 1, 2, promise(1, 2, None));
-    assert_eq!(rt; nodes.packets().len(), 25);
+    same(&rt, nodes.packets().len(), 25);
     Ok(())
 }
 
@@ -113,7 +114,7 @@ fn prepare_after_the_vote(rt: &impl Abort, alloc: Global) -> Result<(), Fault> {
     let mut nodes = up_to_the_accepts(rt, alloc)?;
     nodes.run(rt, &[Step::Deliver(5), Step::Deliver(0)]);
     check_letter(rt, &nodes, 11, 0, 0, refused(1, 0, at(1, 0)));
-    assert_eq!(rt; nodes.packets().len(), 12);
+    same(rt, nodes.packets().len(), 12);
     Ok(())
 }
 
@@ -149,7 +150,7 @@ fn check_held<L: Locks + Drop>(
     nodes: &Nodes<L>,
     number: usize,
 ) -> Result<(), Fault> {
-    assert!(rt; nodes.node(number)?.held(SLOT) == Some(&batch_x(alloc)?));
+    holds(rt, nodes.node(number)?.held(SLOT) == Some(&batch_x(alloc)?));
     Ok(())
 }
 
@@ -163,12 +164,12 @@ fn of_two(rt: &impl Abort, alloc: Global) -> Result<(), Fault> {
     for number in 0..7 {
         nodes.run(rt, &[Step::Deliver(number)]);
     }
-    assert!(rt; nodes.node(0)?.held(SLOT).is_none());
+    holds(rt, nodes.node(0)?.held(SLOT).is_none());
     nodes.refuse(rt, Step::Deliver(6), 22);
     nodes.run(rt, &[Step::Deliver(8)]);
     check_held(rt, alloc, &nodes, 0)?;
     nodes.refuse(rt, Step::Deliver(8), 22);
-    assert!(rt; nodes.node(1)?.held(SLOT).is_none());
+    holds(rt, nodes.node(1)?.held(SLOT).is_none());
     Ok(())
 }
 
@@ -180,10 +181,10 @@ fn of_one(rt: &impl Abort, alloc: Global) -> Result<(), Fault> {
         &[Step::Submit(0, 1, X), Step::Close(0), Step::Propose(0, 0)],
     );
     nodes.run(rt, &[Step::Deliver(0), Step::Deliver(1), Step::Deliver(2)]);
-    assert!(rt; nodes.node(0)?.held(SLOT).is_none());
+    holds(rt, nodes.node(0)?.held(SLOT).is_none());
     nodes.run(rt, &[Step::Deliver(3)]);
     check_held(rt, alloc, &nodes, 0)?;
-    assert_eq!(rt; nodes.packets().len(), 4);
+    same(rt, nodes.packets().len(), 4);
     Ok(())
 }
 

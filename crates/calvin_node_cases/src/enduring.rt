@@ -4,6 +4,7 @@
 //! (55, 57) are refused. With ample memory nothing else is. `rt try --test --fail-alloc N` refuses the Nth allocation of a
 //! test: for each N, from 1 until `nothing_refused` has passed for many in turn, `refused_once` has to pass
 //! (`tools/check_refusals`).
+use crate::checks::{holds, same};
 use crate::nodes::{Nodes, Step, number_of};
 use crate::scarce::ScarceRows;
 use crate::shown::key;
@@ -58,19 +59,19 @@ impl Life {
 
     /// Memory was never refused.
     pub(crate) fn check_unrefused(&self, rt: &impl Abort) {
-        assert_eq!(rt; self.refused, 0);
+        same(rt, self.refused, 0);
     }
 
     /// The nodes tell the same as the others, and have sent the same packets.
     fn check_alike(&self, rt: &impl Abort) {
-        assert!(rt; self.nodes.is_alike(&self.others));
+        holds(rt, self.nodes.is_alike(&self.others));
     }
 
     /// The outbox has memory for no more packets than is said, if not at once then with memory.
     fn leave_room(&mut self, rt: &impl Abort) {
         if self.nodes.leave_room(self.room).is_err() {
             self.refused = self.refused.saturating_add(1);
-            assert!(rt; self.nodes.leave_room(self.room).is_ok());
+            holds(rt, self.nodes.leave_room(self.room).is_ok());
         }
     }
 
@@ -81,7 +82,7 @@ impl Life {
             self.refused = self.refused.saturating_add(1);
             refusal = number_of(self.others.step(step));
         }
-        assert_eq!(rt; refusal, 0);
+        same(rt, refusal, 0);
     }
 
     /// An event takes effect, if not at once then with memory: a refusal for want of it changes nothing.
@@ -93,7 +94,7 @@ impl Life {
             self.check_alike(rt);
             refusal = number_of(self.nodes.step(step));
         }
-        assert_eq!(rt; refusal, 0);
+        same(rt, refusal, 0);
         self.follow(rt, step);
         self.check_alike(rt);
     }
@@ -116,7 +117,7 @@ impl Life {
     pub(crate) fn refuse_all(&mut self, rt: &impl Abort, steps: &[(Step, u8)]) {
         for (step, number) in steps {
             self.leave_room(rt);
-            assert_eq!(rt; number_of(self.nodes.step(step)), *number);
+            same(rt, number_of(self.nodes.step(step)), *number);
             self.check_alike(rt);
         }
     }
@@ -124,8 +125,8 @@ impl Life {
     /// A node has this row for the key of a number.
     pub(crate) fn check_row(&self, rt: &impl Abort, number: usize, id: u64, row: u64) {
         match self.nodes.node(number) {
-            Ok(node) => assert_eq!(rt; node.rows().get(&key(id)), Some(row), "node {number}"),
-            Err(_fault) => assert!(rt; false, "node {number}"),
+            Ok(node) => same(rt, (number, node.rows().get(&key(id))), (number, Some(row))),
+            Err(_fault) => same(rt, (number, "no node"), (number, "a node")),
         }
     }
 }
@@ -292,7 +293,7 @@ fn check_end(life: &Life, rt: &impl Abort, packets: usize) {
     }
     life.check_row(rt, 0, 2, 4);
     life.check_row(rt, 1, 1, 6);
-    assert_eq!(rt; life.nodes.packets().len(), packets);
+    same(rt, life.nodes.packets().len(), packets);
 }
 
 /// Two epochs of two nodes. There is no memory for a packet.

@@ -6,6 +6,8 @@ mod agreement;
 #[cfg(test)]
 mod alike;
 #[cfg(test)]
+mod checks;
+#[cfg(test)]
 mod enduring;
 #[cfg(test)]
 mod letters;

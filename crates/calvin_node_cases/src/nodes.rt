@@ -1,5 +1,6 @@
 //! Nodes side by side, and the list of all that they sent.
 use crate::alike::{have_sent_same, tell_same};
+use crate::checks::same;
 use crate::shown::{Sent, copied, is_same, key, request};
 use calvin_app::{Kv, KvRequest};
 use calvin_lock::Locks;
@@ -231,7 +232,7 @@ impl<L: Locks + Drop, S: Rows<u64> + Drop> Nodes<L, S> {
     /// Events happen one after another, and each takes effect.
     pub(crate) fn run(&mut self, rt: &impl Abort, steps: &[Step]) {
         for (i, step) in steps.iter().enumerate() {
-            assert_eq!(rt; number_of(self.step(step)), 0, "step {i}");
+            same(rt, (i, number_of(self.step(step))), (i, 0));
         }
     }
 
@@ -266,23 +267,23 @@ impl<L: Locks + Drop, S: Rows<u64> + Drop> Nodes<L, S> {
     ) {
         match self.nodes.get(number) {
             Some(node) => {
-                assert_eq!(rt; node.stands_at(), epoch, "node {number}");
-                assert_eq!(rt; node.rows().len(), rows, "node {number}");
+                same(rt, (number, node.stands_at()), (number, epoch));
+                same(rt, (number, node.rows().len()), (number, rows));
             }
-            None => assert!(rt; false, "node {number}"),
+            None => same(rt, (number, "no node"), (number, "a node")),
         }
     }
 
     /// An event is refused with this number.
     pub(crate) fn refuse(&mut self, rt: &impl Abort, step: Step, number: u8) {
-        assert_eq!(rt; number_of(self.step(&step)), number);
+        same(rt, number_of(self.step(&step)), number);
     }
 
     /// The packet of this number is this one.
     pub(crate) fn check_sent(&self, rt: &impl Abort, number: usize, packet: &Sent) {
         match self.packets().get(number) {
-            Some(sent) => assert!(rt; is_same(sent, packet), "packet {number}"),
-            None => assert!(rt; false, "packet {number}"),
+            Some(sent) => same(rt, (number, is_same(sent, packet)), (number, true)),
+            None => same(rt, (number, "no packet"), (number, "a packet")),
         }
     }
 }

@@ -1,5 +1,6 @@
 //! Two replicas of two partitions: node 0 is partition 0 of replica 0, node 1 is partition 1 of it, and nodes 2 and 3 are
 //! those of replica 1. Key 2 is stored in partition 0, key 1 in partition 1.
+use crate::checks::same;
 use crate::nodes::{Nodes, Step, number_of};
 use crate::shown::{Sent, key, place};
 use calvin_app::{Answer, KvReply, KvRequest};
@@ -90,10 +91,10 @@ fn row<L: Locks + Drop>(nodes: &Nodes<L>, node: usize, id: u64) -> Result<Option
 #[test]
 fn moved_between_partitions(rt: HostRuntime) -> Result<(), Fail> {
     let nodes: Nodes<ListLocks> = up_to_epoch_two(&rt, rt.alloc())?;
-    assert_eq!(rt; row(&nodes, 0, 2)?, Some(9));
-    assert_eq!(rt; row(&nodes, 1, 1)?, Some(1));
-    assert_eq!(rt; row(&nodes, 2, 2)?, Some(9));
-    assert_eq!(rt; row(&nodes, 3, 1)?, Some(1));
+    same(&rt, row(&nodes, 0, 2)?, Some(9));
+    same(&rt, row(&nodes, 1, 1)?, Some(1));
+    same(&rt, row(&nodes, 2, 2)?, Some(9));
+    same(&rt, row(&nodes, 3, 1)?, Some(1));
     Ok(())
 }
 
@@ -149,7 +150,7 @@ fn catch_up<L: Locks + Drop>(rt: &impl Abort, alloc: Global) -> Result<(), Fault
     run_late(rt, &mut nodes, place(1, 0));
     run_late(rt, &mut nodes, place(2, 0));
     nodes.check_stands(rt, LATE, Some(2), 1);
-    assert_eq!(rt; row(&nodes, LATE, 2)?, Some(9));
+    same(rt, row(&nodes, LATE, 2)?, Some(9));
     check_replies(rt, &nodes, first);
     Ok(())
 }
@@ -158,9 +159,9 @@ fn catch_up<L: Locks + Drop>(rt: &impl Abort, alloc: Global) -> Result<(), Fault
 fn check_replies<L: Locks + Drop>(rt: &impl Abort, nodes: &Nodes<L>, first: usize) {
     for (epoch, number) in [(1, 2), (2, 3)] {
         let reply = reply(epoch, number);
-        assert_eq!(rt; nodes.times(0, first, &reply), 1, "before, epoch {epoch}");
+        same(rt, (epoch, nodes.times(0, first, &reply)), (epoch, 1));
         let last = nodes.packets().len();
-        assert_eq!(rt; nodes.times(first, last, &reply), 1, "since, epoch {epoch}");
+        same(rt, (epoch, nodes.times(first, last, &reply)), (epoch, 1));
     }
 }
 
@@ -181,7 +182,7 @@ fn ask_before_it_begins(rt: &impl Abort, alloc: Global) -> Result<(), Fault> {
     );
     let asked = nodes.packets().len();
     nodes.refuse(rt, Step::Deliver(asked.saturating_sub(1)), 47);
-    assert_eq!(rt; nodes.packets().len(), asked);
+    same(rt, nodes.packets().len(), asked);
     Ok(())
 }
 
@@ -213,7 +214,7 @@ fn deliver_again<L: Locks + Drop>(
                 23 => refused[2] = refused[2].saturating_add(1),
                 43 => refused[3] = refused[3].saturating_add(1),
                 47 => refused[4] = refused[4].saturating_add(1),
-                _ => assert!(rt; false, "packet {number} is refused with {refusal}"),
+                _ => same(rt, (number, refusal, "new"), (number, refusal, "known")),
             }
         }
     }
@@ -239,7 +240,7 @@ fn former_packets_again(rt: HostRuntime) -> Result<(), Fail> {
         deliver_again(&rt, &mut nodes, id, last, &mut refused);
     }
     for (i, times) in refused.iter().enumerate() {
-        assert!(rt; *times > 0, "refusal {i} of the list");
+        same(&rt, (i, *times > 0), (i, true));
     }
     Ok(())
 }

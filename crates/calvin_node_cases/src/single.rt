@@ -1,4 +1,5 @@
 //! One node alone: a majority of one decides.
+use crate::checks::same;
 use crate::letters::{X, check_letter, prepare};
 use crate::nodes::{Nodes, Step, number_of};
 use crate::shown::{key, place, request};
@@ -57,7 +58,7 @@ fn check_reply<L: Locks + Drop>(rt: &impl Abort, nodes: &Nodes<L>) {
         content: Content::Replies(place(0, 0), id, 1, Answer::Reply(KvReply::Done)),
     };
     nodes.check_sent(rt, 4, &reply);
-    assert_eq!(rt; nodes.packets().len(), 5);
+    same(rt, nodes.packets().len(), 5);
 }
 
 fn one_request<L: Locks + Drop>(rt: &impl Abort, alloc: Global) -> Result<(), Fault> {
@@ -80,7 +81,7 @@ fn one_node_run(rt: HostRuntime) -> Result<(), Fail> {
 /// Events happen by their names, and each takes effect.
 fn act_all<L: Locks + Drop>(rt: &impl Abort, nodes: &mut Nodes<L>, acts: &[Act<KvRequest>]) {
     for (i, act) in acts.iter().enumerate() {
-        assert_eq!(rt; number_of(nodes.act(0, act)), 0, "act {i}");
+        same(rt, (i, number_of(nodes.act(0, act))), (i, 0));
     }
 }
 
@@ -115,9 +116,9 @@ fn plain_rows(rt: HostRuntime) -> Result<(), Fail> {
     let mut nodes: Nodes<ListLocks> = Nodes::new(rt.alloc(), 1, 1)?;
     decide(&rt, &mut nodes);
     run_decided(&rt, &mut nodes);
-    assert_eq!(rt; number_of(nodes.act(0, &Act::Mark(0))), 56);
-    assert_eq!(rt; number_of(nodes.act(0, &Act::Cool(key(1)))), 57);
-    assert_eq!(rt; number_of(nodes.act(0, &Act::Cool(key(2)))), 55);
+    same(&rt, number_of(nodes.act(0, &Act::Mark(0))), 56);
+    same(&rt, number_of(nodes.act(0, &Act::Cool(key(1)))), 57);
+    same(&rt, number_of(nodes.act(0, &Act::Cool(key(2)))), 55);
     Ok(())
 }
 

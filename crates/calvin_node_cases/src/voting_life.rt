@@ -1,5 +1,6 @@
 //! A life of the three replicas of one partition, in which what is refused for want of memory is tried again (`enduring`). A
 //! node's number is its replica, and two of them are a majority.
+use crate::checks::{holds, same};
 use crate::enduring::Life;
 use crate::letters::{SLOT, X, at, check_letter};
 use crate::nodes::Step;
@@ -70,8 +71,8 @@ fn check_held(
     other: usize,
 ) -> Result<(), Fault> {
     let held = life.nodes().node(one)?.held(slot);
-    assert!(rt; held.is_some());
-    assert!(rt; held == life.nodes().node(other)?.held(slot));
+    holds(rt, held.is_some());
+    holds(rt, held == life.nodes().node(other)?.held(slot));
     Ok(())
 }
 
@@ -118,7 +119,7 @@ fn vote_for_x_again(life: &mut Life, rt: &impl Abort) -> Result<(), Fault> {
     );
     check_held(life, rt, SLOT, 0, 1)?;
     check_held(life, rt, SLOT, 0, 2)?;
-    assert_eq!(rt; life.nodes().node(1)?.queued(), 1);
+    same(rt, life.nodes().node(1)?.queued(), 1);
     Ok(())
 }
 
@@ -168,7 +169,7 @@ fn give_way(life: &mut Life, rt: &impl Abort) -> Result<(), Fault> {
     life.deliver(rt, 62, 66);
     life.endure_all(rt, &[Step::Deliver(67), Step::Deliver(70)]);
     check_held(life, rt, SECOND, 0, 2)?;
-    assert_eq!(rt; life.nodes().node(2)?.queued(), 0);
+    same(rt, life.nodes().node(2)?.queued(), 0);
     Ok(())
 }
 
@@ -208,10 +209,10 @@ fn come_back(life: &mut Life, rt: &impl Abort) {
     );
     check_refused(life, rt, 75, 2, at(1, 2), at(3, 2));
     let told = life.nodes().packets().get(76).and_then(voted);
-    assert_eq!(rt; told, Some(at(3, 2)));
+    same(rt, told, Some(at(3, 2)));
     check_prepares(life, rt, 77, THIRD, at(4, 2));
     life.refuse_all(rt, &[(Step::Deliver(75), 21), (Step::Deliver(76), 21)]);
-    assert_eq!(rt; life.nodes().packets().len(), 80);
+    same(rt, life.nodes().packets().len(), 80);
 }
 
 /// Node 2 stands at the end of epoch 1 with what was put.

@@ -185,17 +185,22 @@ fn play<S: Rows<u64>>(
     Ok(())
 }
 
+/// So many drawn calls, and what both snapshots hold after them.
+fn play_all<S: Rows<u64>>(rows: &mut S, calls: u32, told: &mut Vec<u64>) -> Result<(), Fault> {
+    let mut kept = rows.snapshot()?;
+    let mut draws = Draws { state: 12 };
+    for _ in 0..calls {
+        play(rows, &mut kept, &mut draws, told)?;
+    }
+    note(&rows.snapshot()?, told)?;
+    note(&kept, told)
+}
+
 /// What is seen of drawn calls.
 fn played<S: Rows<u64> + Drop>(alloc: Global, calls: u32) -> Result<Vec<u64>, Fault> {
     let mut rows = S::empty(alloc);
-    let mut kept = rows.snapshot()?;
-    let mut draws = Draws { state: 12 };
     let mut told = Vec::new(alloc);
-    for _ in 0..calls {
-        play(&mut rows, &mut kept, &mut draws, &mut told)?;
-    }
-    note(&rows.snapshot()?, &mut told)?;
-    note(&kept, &mut told)?;
+    play_all(&mut rows, calls, &mut told)?;
     Ok(told)
 }
 

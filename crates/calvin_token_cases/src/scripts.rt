@@ -104,9 +104,13 @@ fn operation(generator: &mut Pcg32, alloc: Global, app: AppName) -> Result<Strin
     }
 }
 
-/// A request with its members in a drawn order. Its declared sets have a key.
-fn request(generator: &mut Pcg32, alloc: Global, app: AppName) -> Result<String, AllocError> {
-    let mut members = Vec::new(alloc);
+/// Adds who asks, what is asked, and at times the attempt.
+fn add_asked(
+    members: &mut Vec<String>,
+    generator: &mut Pcg32,
+    alloc: Global,
+    app: AppName,
+) -> Result<(), AllocError> {
     let (client, number) = (draw(generator, 1000), draw(generator, 1000));
     members.push(format!(in alloc; r#""client":{client}"#)?)?;
     members.push(format!(in alloc; r#""number":{number}"#)?)?;
@@ -115,11 +119,28 @@ fn request(generator: &mut Pcg32, alloc: Global, app: AppName) -> Result<String,
         let attempt = draw(generator, 8).wrapping_add(1);
         members.push(format!(in alloc; r#""attempt":{attempt}"#)?)?;
     }
+    Ok(())
+}
+
+/// Adds declared sets, of which that of the writes has a key.
+fn add_sets(
+    members: &mut Vec<String>,
+    generator: &mut Pcg32,
+    alloc: Global,
+) -> Result<(), AllocError> {
     let reads = keys(generator, alloc, "[0,", "]")?;
     members.push(format!(in alloc; r#""reads":[{reads}]"#)?)?;
     let writes = keys(generator, alloc, "[3,", "]")?;
     let comma = if writes.is_empty() { "" } else { "," };
     members.push(format!(in alloc; r#""writes":[{writes}{comma}[7,1]]"#)?)?;
+    Ok(())
+}
+
+/// A request with its members in a drawn order. Its declared sets have a key.
+fn request(generator: &mut Pcg32, alloc: Global, app: AppName) -> Result<String, AllocError> {
+    let mut members = Vec::new(alloc);
+    add_asked(&mut members, generator, alloc, app)?;
+    add_sets(&mut members, generator, alloc)?;
     let members = joined(generator, alloc, members.as_slice())?;
     format!(in alloc; "{{{members}}}")
 }
@@ -143,18 +164,28 @@ fn batch(
     format!(in alloc; "{{{members}}}")
 }
 
-/// A script of a few batches of the groups 0 and 1 for an application, with its members in a drawn order.
-pub fn script(generator: &mut Pcg32, alloc: Global, app: AppName) -> Result<String, AllocError> {
+/// A few batches of the groups 0 and 1.
+fn epoch(generator: &mut Pcg32, alloc: Global, app: AppName) -> Result<String, AllocError> {
+    let mut batches = Vec::new(alloc);
+    for group in 0..draw(generator, 3) {
+        batches.push(batch(generator, alloc, app, group)?)?;
+    }
+    let batches = joined(generator, alloc, batches.as_slice())?;
+    format!(in alloc; "[{batches}]")
+}
+
+/// A few epochs.
+fn epochs(generator: &mut Pcg32, alloc: Global, app: AppName) -> Result<String, AllocError> {
     let mut epochs = Vec::new(alloc);
     for _ in 0..draw(generator, 3) {
-        let mut batches = Vec::new(alloc);
-        for group in 0..draw(generator, 3) {
-            batches.push(batch(generator, alloc, app, group)?)?;
-        }
-        let batches = joined(generator, alloc, batches.as_slice())?;
-        epochs.push(format!(in alloc; "[{batches}]")?)?;
+        epochs.push(epoch(generator, alloc, app)?)?;
     }
-    let epochs = joined(generator, alloc, epochs.as_slice())?;
+    joined(generator, alloc, epochs.as_slice())
+}
+
+/// A script of a few batches of the groups 0 and 1 for an application, with its members in a drawn order.
+pub fn script(generator: &mut Pcg32, alloc: Global, app: AppName) -> Result<String, AllocError> {
+    let epochs = epochs(generator, alloc, app)?;
     let mut members = Vec::new(alloc);
     members.push(format!(in alloc; r#""partitions":2"#)?)?;
     let name = match app {
