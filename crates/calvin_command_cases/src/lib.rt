@@ -6,6 +6,8 @@ mod agreement;
 #[cfg(test)]
 mod check;
 #[cfg(test)]
+mod checks;
+#[cfg(test)]
 mod event_lists;
 #[cfg(test)]
 mod limits;

@@ -1,5 +1,6 @@
 //! The worked cases of `calvin serial`; what no clause says, which is the text of help and what lines with the word
 //! `help` come to; and bad lines and failing devices seen through the program.
+use crate::checks::{holds, same};
 use calvin_command::command;
 use calvin_edge::{FailingSink, FailingSource, MemorySink, MemorySource, WriteFailure};
 use std::alloc::Global;
@@ -25,15 +26,12 @@ pub(crate) fn runs(
     let mut output = MemorySink::new(alloc);
     let mut error = MemorySink::new(alloc);
     let found = command(alloc, words, &mut input, &mut output, &mut error);
-    assert!(rt;
-        output.taken.as_slice() == text.as_bytes(),
-        "the text for {script}"
+    same(
+        rt,
+        (script, output.taken.as_slice(), error.taken.as_slice()),
+        (script, text.as_bytes(), told.as_bytes()),
     );
-    assert!(rt;
-        error.taken.as_slice() == told.as_bytes(),
-        "what is told of {script}"
-    );
-    assert_eq!(rt; found, status, "the status for {script}");
+    same(rt, (script, found), (script, status));
 }
 
 fn prints(rt: &impl Abort, alloc: Global, script: &str, text: &str) {
@@ -176,14 +174,19 @@ fn helps(rt: &impl Abort, alloc: Global, words: &[&str], parts: &[&str]) {
     let mut input = MemorySource::new(b"");
     let mut output = MemorySink::new(alloc);
     let mut error = MemorySink::new(alloc);
-    assert_eq!(rt;
+    same(
+        rt,
         command(alloc, words, &mut input, &mut output, &mut error),
-        0
+        0,
     );
     for part in parts {
-        assert!(rt; has_text(output.taken.as_slice(), part), "{part}");
+        same(
+            rt,
+            (part, has_text(output.taken.as_slice(), part)),
+            (part, true),
+        );
     }
-    assert_eq!(rt; error.taken.len(), 0);
+    same(rt, error.taken.len(), 0);
 }
 
 #[test]
@@ -209,28 +212,28 @@ fn script_too_long(rt: HostRuntime) -> Result<(), Fail> {
     let mut input = MemorySource::new(&script);
     let mut output = MemorySink::new(alloc);
     let mut error = MemorySink::new(alloc);
-    assert_eq!(rt;
+    same(
+        &rt,
         command(alloc, &words, &mut input, &mut output, &mut error),
-        2
+        2,
     );
-    assert_eq!(rt;
+    same(
+        &rt,
         error.taken.as_slice(),
-        b"calvin: 92 ScriptTooLong\n".as_slice()
+        b"calvin: 92 ScriptTooLong\n".as_slice(),
     );
-    assert_eq!(rt; output.taken.len(), 0);
-    assert_eq!(rt;
-        input.left.len(),
-        1,
-        "nothing past the first byte too many is read"
-    );
+    same(&rt, output.taken.len(), 0);
+    // Nothing past the first byte too many is read.
+    same(&rt, input.left.len(), 1);
     script.truncate(1_048_576);
     let mut input = MemorySource::new(&script);
     let mut error = MemorySink::new(alloc);
-    assert_eq!(rt;
+    same(
+        &rt,
         command(alloc, &words, &mut input, &mut output, &mut error),
-        0
+        0,
     );
-    assert_eq!(rt; output.taken.as_slice(), PUT_THEN_GET_TEXT.as_bytes());
+    same(&rt, output.taken.as_slice(), PUT_THEN_GET_TEXT.as_bytes());
     Ok(())
 }
 
@@ -247,16 +250,18 @@ fn failing_readers(rt: HostRuntime) {
         };
         let mut output = MemorySink::new(alloc);
         let mut error = MemorySink::new(alloc);
-        assert_eq!(rt;
+        same(
+            &rt,
             command(alloc, &words, &mut input, &mut output, &mut error),
-            5
+            5,
         );
-        assert_eq!(rt;
+        same(
+            &rt,
             error.taken.as_slice(),
-            b"calvin: 95 ReadFailed\n".as_slice()
+            b"calvin: 95 ReadFailed\n".as_slice(),
         );
-        assert_eq!(rt; output.taken.len(), 0);
-        assert!(rt; input.failures.is_raised());
+        same(&rt, output.taken.len(), 0);
+        holds(&rt, input.failures.is_raised());
     }
 }
 
@@ -264,21 +269,24 @@ fn failing_readers(rt: HostRuntime) {
 fn stops_after(rt: &impl Abort, alloc: Global, output: &mut FailingSink, out: usize) {
     let mut input = MemorySource::new(PUT_THEN_GET.as_bytes());
     let mut error = MemorySink::new(alloc);
-    assert_eq!(rt;
+    same(
+        rt,
         command(alloc, &["calvin", "serial"], &mut input, output, &mut error),
-        5
+        5,
     );
-    assert_eq!(rt;
+    same(
+        rt,
         error.taken.as_slice(),
-        b"calvin: 96 WriteFailed\n".as_slice()
+        b"calvin: 96 WriteFailed\n".as_slice(),
     );
-    assert_eq!(rt; output.taken.len(), out);
-    assert!(rt;
+    same(rt, output.taken.len(), out);
+    holds(
+        rt,
         PUT_THEN_GET_TEXT
             .as_bytes()
-            .starts_with(output.taken.as_slice())
+            .starts_with(output.taken.as_slice()),
     );
-    assert!(rt; output.failures.is_raised());
+    holds(rt, output.failures.is_raised());
 }
 
 /// The calls, the bytes and the bytes of a call after which an output fails, and how many bytes are out then.
@@ -323,12 +331,13 @@ fn one_byte_a_write(rt: HostRuntime) {
         ..FailingSink::new(alloc)
     };
     let mut error = MemorySink::new(alloc);
-    assert_eq!(rt;
+    same(
+        &rt,
         command(alloc, &words, &mut input, &mut output, &mut error),
-        0
+        0,
     );
-    assert_eq!(rt; output.taken.as_slice(), PUT_THEN_GET_TEXT.as_bytes());
-    assert_eq!(rt; error.taken.len(), 0);
+    same(&rt, output.taken.as_slice(), PUT_THEN_GET_TEXT.as_bytes());
+    same(&rt, error.taken.len(), 0);
 }
 
 #[test]
@@ -342,10 +351,11 @@ fn a_failing_standard_error(rt: HostRuntime) {
             bytes: 3,
             ..FailingSink::new(alloc)
         };
-        assert_eq!(rt;
+        same(
+            &rt,
             command(alloc, words, &mut input, &mut output, &mut error),
-            2
+            2,
         );
-        assert_eq!(rt; error.taken.as_slice(), b"cal".as_slice());
+        same(&rt, error.taken.as_slice(), b"cal".as_slice());
     }
 }
