@@ -1,7 +1,9 @@
 -- What is told of a world in code is told of the world that the events lead to: it stands where that one stands.
-use Rattle.std.proofs.Common.{◌≡◌, ℕ, suc, List, [], ◌∷◌, ◌++◌, map, Option, refl, ap, subst, ◌∙◌}
+use Rattle.std.proofs.Common.{◌≡◌, ℕ, suc, List, [], ◌∷◌, ◌++◌, map, Result, Ok, Err, refl, ap, subst, ◌∙◌}
 use Rattle.std.specs.List.{flat_map}
+use Rattle.std.specs.Prelude.{OnOk}
 use Rattle.std.specs.FinMap.{entries, len}
+use Rattle.calvin_types.specs.declared.fault.Fault.{Fault}
 use Rattle.calvin_app.specs.Meaning.{Meaning}
 use Rattle.calvin_order.specs.Configs.{Config}
 use Rattle.calvin_sched.specs.Standing.{greatest_below}
@@ -16,9 +18,14 @@ use Rattle.calvin_world.specs.SettledWorlds.{settled_world, SettledLeads}
 use Rattle.calvin_world.specs.Through.{through, WithoutWant}
 use Rattle.calvin_world.proofs.Led.{settled_led}
 use Rattle.calvin_report.specs.declared.replies.Epochs.TheVariants.{All}
-use Rattle.calvin_report.specs.Replies.{ByPlace, replied, of_epochs, reply_lines}
+use Rattle.calvin_report.specs.Replies.{replied, of_epochs, reply_lines}
 use Rattle.calvin_report.specs.Reports.{outcome_lines, node_line, line_of, last_standing, node_lines, least, least_standing}
-use Rattle.calvin_check.specs.Checks.{told, answer_lines}
+use Rattle.calvin_check.specs.Checks.{told_behind, told, answer_lines}
+
+-- what holds anyway holds where a call succeeds
+pub anyway : {T : Type 0} (r : Result T Fault) (P : Type 0) → P → OnOk r P
+anyway (Ok x) P h = h
+anyway (Err e) P h = tt
 
 module _ {Args Row : Type 0} where
   last_same : (x : NodeState Args Row) → last_standing (settled x) ≡ last_standing x
@@ -49,16 +56,13 @@ module _ {Args Row Reply : Type 0} (m : Meaning Args Row Reply) (show : Reply �
   same_last : least_standing w ≡ least_standing end.1
   same_last = ap least_standing both.1 ∙ ap least (lasts_same end.1.nodes)
 
-  module _ (es : ByPlace Reply) (of_world : es ≡ entries (replied w.packets)) (last : Option ℕ) (is_last : last ≡ least_standing w) where
-    same_replies : es ≡ entries (replied end.1.packets)
-    same_replies = of_world ∙ ap (λ (v : WorldState Args Row Reply). entries (replied v.packets)) both.1
+  same_replies : entries (replied w.packets) ≡ entries (replied end.1.packets)
+  same_replies = ap (λ (v : WorldState Args Row Reply). entries (replied v.packets)) both.1
 
-    pub told_text : (t a b d e : List ℕ) → t ≡ [] → a ≡ t ++ outcome_lines 0 outcomes → b ≡ a ++ node_lines w → d ≡ b ++ reply_lines show (of_epochs All es) → e ≡ d ++ finished_at last → e ≡ told show end
-    told_text t a b d e none first second third fourth =
-        let outcomes_told : a ≡ outcome_lines 0 end.0 = first ∙ (λ i. none i ++ outcome_lines 0 (both.0 i)) in
-        let nodes_told : b ≡ outcome_lines 0 end.0 ++ node_lines end.1 = second ∙ (λ i. outcomes_told i ++ same_lines i) in
-        let replies_told : d ≡ outcome_lines 0 end.0 ++ node_lines end.1 ++ reply_lines show (of_epochs All (entries (replied end.1.packets))) = third ∙ (λ i. nodes_told i ++ reply_lines show (of_epochs All (same_replies i))) in
-        fourth ∙ (λ i. replies_told i ++ finished_at ((is_last ∙ same_last) i))
+  pub told_text : (t a e : List ℕ) → t ≡ [] → a ≡ t ++ outcome_lines 0 outcomes → e ≡ told_behind show a w → e ≡ told show end
+  told_text t a e none first second =
+      let outcomes_told : a ≡ outcome_lines 0 end.0 = first ∙ (λ i. none i ++ outcome_lines 0 (both.0 i)) in
+      second ∙ (λ i. outcomes_told i ++ same_lines i ++ reply_lines show (of_epochs All (same_replies i)) ++ finished_at (same_last i))
 
-    pub told_lines : map (λ e. line show e.0 e.1.0 e.1.1) es ++ finished_at last ∷ [] ≡ answer_lines show end.1
-    told_lines = λ i. map (λ e. line show e.0 e.1.0 e.1.1) (same_replies i) ++ finished_at ((is_last ∙ same_last) i) ∷ []
+  pub told_lines : answer_lines show w ≡ answer_lines show end.1
+  told_lines = λ i. map (λ e. line show e.0 e.1.0 e.1.1) (same_replies i) ++ finished_at (same_last i) ∷ []

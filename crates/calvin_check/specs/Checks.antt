@@ -3,6 +3,7 @@
 --     ended m script      how the events end, and the world that they lead to
 --     answer_lines show w      the lines of the answers: one for each place at which something was replied, and the last line
 --     are_lines texts lines, are_expected expect lines      the texts are the lines, each without its line feed;  where any are expected
+--     told_behind show text w      a text, and behind it each node and the answers
 --     report show m script      the text: how each event ended, each node, and the answers
 --     is_as_expected show m script      the lines of the answers are the texts that are expected, where any are
 --     report_of bytes      the text for the bytes of a script, and whether its answers are as expected; or why there is none
@@ -53,9 +54,13 @@ module _ {Args Row Reply : Type 0} where
     abbrev pub answer_lines : WorldState Args Row Reply → List (List ℕ)
     answer_lines w = map (λ e. line show e.0 e.1.0 e.1.1) (entries (replied w.packets)) ++ finished_at (least_standing w) ∷ []
 
+    -- a text, and behind it each node and the answers
+    abbrev pub told_behind : List ℕ → WorldState Args Row Reply → List ℕ
+    told_behind text w = text ++ node_lines w ++ reply_lines show (of_epochs All (entries (replied w.packets))) ++ finished_at (least_standing w)
+
     -- how each event ended, each node, and the answers
     abbrev pub told : List Outcome × WorldState Args Row Reply → List ℕ
-    told end = outcome_lines 0 end.0 ++ node_lines end.1 ++ reply_lines show (of_epochs All (entries (replied end.1.packets))) ++ finished_at (least_standing end.1)
+    told end = told_behind (outcome_lines 0 end.0) end.1
 
     abbrev pub report : Meaning Args Row Reply → WorldContents Args → List ℕ
     report m script = told (ended m script)

@@ -1,5 +1,5 @@
 //! The engine `check`: a script of events in, what they make of a world out.
-ghost use Rattle.std.specs.Prelude.{◌≡◌, ◌≢◌, ◌+◌, true, false, IfOk, IfErr, OnOk, IfSome, Ok, Err, IsErrOf, IsOkUnless};
+ghost use Rattle.std.specs.Prelude.{◌≡◌, ◌≢◌, ◌+◌, true, false, map, option_map, string_bytes, IfOk, IfErr, OnOk, IfSome, Ok, Err, IsErrOf, IsOkUnless};
 ghost use Rattle.std.specs.Result.{result_err};
 ghost use Rattle.std.specs.Io.KnownBytes.{Appends};
 ghost use Rattle.calvin_edge.specs.Answering.{HasText, HasBeginning, Refuses};
@@ -7,18 +7,18 @@ ghost use Rattle.calvin_edge.specs.Devices.{LeavesAsTold};
 ghost use Rattle.calvin_script.specs.Documents.{data_of};
 ghost use Rattle.calvin_script.specs.Reading.{and_then, json, Reads};
 ghost use Rattle.calvin_events.specs.EventScripts.{world_contents};
-ghost use Rattle.calvin_check.specs.Checks.{report, is_as_expected, report_for, report_in, check_text, IsExpected, IsCheckFault};
+ghost use Rattle.calvin_check.specs.Checks.{report, told_behind, answer_lines, are_expected, is_as_expected, report_for, report_in, check_text, IsExpected, IsCheckFault};
 
 use crate::expecting::are_lines;
 use crate::running::run_events;
 use calvin_app::{App, Kv};
 use calvin_edge::{Sink, Source, read_all, write_all};
 use calvin_events::{EventScript, event_script_of};
-use calvin_lock::QueueLocks;
+use calvin_lock::{Locks, QueueLocks};
 use calvin_report::{Epochs, finished, push_nodes, push_replies, replies_of};
 use calvin_script::{AppName, Document, Kept, Operation};
 use calvin_stock::Stock;
-use calvin_store::PlainRows;
+use calvin_store::{PlainRows, Rows};
 use calvin_text::{Printed, push_last};
 use calvin_types::{Config, Fault};
 use calvin_world::World;
@@ -30,6 +30,31 @@ struct Report {
     text: Vec<u8>,
     /// Whether the answers are the ones that the script expects, where it expects any.
     is_expected: bool,
+}
+
+/// Adds a line for each node of a world, one for each place at which something was replied, and the last line. Answers whether
+/// the lines of the replies and the last one are the texts that are expected, where any are.
+fn tell_world<A: App + Drop, L: Locks + Drop, S: Rows<A::Row> + Drop>(
+    alloc: Global,
+    world: &World<A, L, S>,
+    expect: &Option<Vec<String>>,
+    text: &mut Vec<u8>,
+) -> Result<bool, Fault>
+where
+    A::Reply: Printed,
+    ensures told { OnOk result (text.new.items ≡ told_behind A.Reply.printed text.old.items world.now) }
+    ensures expected { IfOk result (λ are. are ≡ are_expected (option_map (λ v. map string_bytes v.items) expect.now) (answer_lines A.Reply.printed world.now)) }
+    ensures only { IsOkUnless result Fault.OutOfMemory }
+{
+    push_nodes(text, world)?;
+    let replies = replies_of(alloc, world.packets())?;
+    push_replies(text, &replies, Epochs::All)?;
+    let last = finished(world);
+    push_last(text, last)?;
+    match expect {
+        None => Ok(true),
+        Some(texts) => are_lines(alloc, &replies, last, texts),
+    }
 }
 
 /// What is told of a script for an application.
@@ -53,15 +78,7 @@ where
     let mut world = World::<A, QueueLocks, PlainRows<A::Row>>::new(alloc, &config, app)?;
     let mut text = Vec::new(alloc);
     run_events(&mut world, &script.events, &mut text)?;
-    push_nodes(&mut text, &world)?;
-    let replies = replies_of(alloc, world.packets())?;
-    push_replies(&mut text, &replies, Epochs::All)?;
-    let last = finished(&world);
-    push_last(&mut text, last)?;
-    let is_expected = match &script.expect {
-        None => true,
-        Some(texts) => are_lines(alloc, &replies, last, texts)?,
-    };
+    let is_expected = tell_world(alloc, &world, &script.expect, &mut text)?;
     Ok(Report { text, is_expected })
 }
 
