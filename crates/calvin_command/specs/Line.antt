@@ -48,8 +48,8 @@ use Rattle.calvin_sim.specs.declared.schedule.Restarts.{Restarts}
 use Rattle.calvin_sim.specs.declared.schedule.Restarts.TheVariants.{Never, AboveReplicaZero}
 use Rattle.calvin_command.specs.declared.dispatch.Wish.{Wish}
 use Rattle.calvin_command.specs.declared.dispatch.Wish.TheVariants.{Serial, Check, Sim, Help}
-use Rattle.calvin_command.specs.declared.command.Refusal.{Refusal}
-use Rattle.calvin_command.specs.declared.command.Refusal.TheVariants.{BadLine, OutOfMemory}
+use Rattle.calvin_command.specs.declared.dispatch.Refusal.{Refusal}
+use Rattle.calvin_command.specs.declared.dispatch.Refusal.TheVariants.{BadLine, OutOfMemory}
 
 abbrev pub flag : Text → Rule
 flag name = record (new_rule name) { long = Some name; action = Some SetTrue }
