@@ -4,6 +4,7 @@ use crate::keys::{refusal, txn};
 use calvin_types::{Ballot, Batch, Fault, Key, NodeId, Place, RequestId, Shared, Slot, Txn};
 use std::alloc::Global;
 use std::cmp::Ordering;
+use std::process::Abort;
 use std::sync::{Arc, Mutex, Wait};
 use std::test::Fail;
 use std::thread;
@@ -48,19 +49,34 @@ fn batches(rt: HostRuntime) {
     }
 }
 
+/// Whether a batch has the requests of one that is made of so many.
+fn is_of(alloc: Global, found: &Batch<u64>, count: u32) -> Result<bool, Fault> {
+    let other = batch(alloc, count)?;
+    let is_same = *found == other;
+    drop(other);
+    Ok(is_same)
+}
+
+/// A copy has the 256 requests.
+fn check_copy(rt: &impl Abort, alloc: Global, copy: &Batch<u64>) {
+    for (count, is_same) in [(256, true), (255, false)] {
+        same(rt, (count, is_of(alloc, copy, count)), (count, Ok(is_same)));
+    }
+    let (size, there, alike) = probed(copy, 255);
+    holds(rt, size == 256 && alike);
+    same(rt, there.map(|txn| txn.id.number), Some(255));
+    holds(rt, probed(copy, 256) == (256, None, true));
+}
+
 #[test]
 fn copies_of_a_batch(rt: HostRuntime) -> Result<(), Fail> {
-    let alloc = rt.alloc();
-    let first = batch(alloc, 256)?;
-    let copy = first.copy()?;
-    holds(&rt, copy == first);
-    holds(&rt, batch(alloc, 256)? == first);
-    holds(&rt, batch(alloc, 255)? != first);
+    let first = batch(rt.alloc(), 256)?;
+    let copied = first.copy();
+    holds(&rt, copied.as_ref() == Ok(&first));
     drop(first);
-    let (size, there, alike) = probed(&copy, 255);
-    holds(&rt, size == 256 && alike);
-    same(&rt, there.map(|txn| txn.id.number), Some(255));
-    holds(&rt, probed(&copy, 256) == (256, None, true));
+    let copy = copied?;
+    check_copy(&rt, rt.alloc(), &copy);
+    drop(copy);
     Ok(())
 }
 

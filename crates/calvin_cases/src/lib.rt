@@ -1,5 +1,6 @@
-//! The worked cases, and the tests of what no clause says. They are checked here over the statements of the crates below:
-//! a test in a crate's own folder would have that crate proved once more with it.
+//! The worked cases of requests, batches, sequencers and the merged order, and the tests of what no clause says. They are
+//! checked here over the statements of the crates below: a test in a crate's own folder would have that crate proved once
+//! more with it.
 #![tactic(auto)]
 
 #[cfg(test)]
@@ -7,16 +8,8 @@ mod batches;
 #[cfg(test)]
 mod checks;
 #[cfg(test)]
-mod drawn;
-#[cfg(test)]
-mod group;
-#[cfg(test)]
 mod keys;
 #[cfg(test)]
 mod merge;
 #[cfg(test)]
-mod plain;
-#[cfg(test)]
 mod sequencer;
-#[cfg(test)]
-mod synod;

@@ -31,7 +31,8 @@ fn merge_of(alloc: Global, partitions: u8) -> Result<Merge<u32>, Fault> {
     Ok(Merge::new(alloc, &Config::new(partitions, 1)?))
 }
 
-fn hold(
+/// What holding a batch of requests of these numbers answers.
+fn held(
     alloc: Global,
     merge: &mut Merge<u32>,
     epoch: u64,
@@ -41,15 +42,21 @@ fn hold(
     merge.hold(Slot { epoch, group }, batch(alloc, numbers)?)
 }
 
-/// Takes the next epoch, and compares the places and the numbers of its requests.
-fn gives(
+/// A batch of requests of these numbers comes to be held.
+fn hold(
     rt: &impl Abort,
+    alloc: Global,
     merge: &mut Merge<u32>,
     epoch: u64,
+    group: u8,
     numbers: &[u32],
-) -> Result<(), Fault> {
-    same(rt, merge.next(), Some(epoch));
-    let taken = merge.take_epoch()?;
+) {
+    let is_new = held(alloc, merge, epoch, group, numbers);
+    same(rt, (epoch, group, is_new), (epoch, group, Ok(true)));
+}
+
+/// What was taken are requests of these numbers, at the places of an epoch in turn.
+fn check_taken(rt: &impl Abort, taken: &[(Place, Txn<u32>)], epoch: u64, numbers: &[u32]) {
     same(rt, taken.len(), numbers.len());
     let mut n = 0;
     for (number, (place, txn)) in numbers.iter().zip(taken.iter()) {
@@ -57,17 +64,34 @@ fn gives(
         same(rt, txn.id.number, *number);
         n = n.saturating_add(1);
     }
-    Ok(())
+}
+
+/// Takes the next epoch, and compares the places and the numbers of its requests.
+fn gives(rt: &impl Abort, merge: &mut Merge<u32>, epoch: u64, numbers: &[u32]) {
+    same(rt, merge.next(), Some(epoch));
+    match merge.take_epoch() {
+        Ok(taken) => check_taken(rt, &taken, epoch, numbers),
+        Err(fault) => same(rt, (epoch, fault.number()), (epoch, 0)),
+    }
+}
+
+/// The next epoch can't be taken, since a batch is missing.
+fn lacks(rt: &impl Abort, merge: &mut Merge<u32>) {
+    match merge.take_epoch() {
+        Ok(taken) => same(rt, (taken.len(), 0), (0, 34)),
+        Err(fault) => same(rt, fault.number(), 34),
+    }
 }
 
 #[test]
 fn groups_ascend(rt: HostRuntime) -> Result<(), Fail> {
     let alloc = rt.alloc();
     let mut merge = merge_of(alloc, 3)?;
-    same(&rt, hold(alloc, &mut merge, 0, 2, &[5, 4])?, true);
-    same(&rt, hold(alloc, &mut merge, 0, 0, &[9, 1])?, true);
-    same(&rt, hold(alloc, &mut merge, 0, 1, &[3])?, true);
-    gives(&rt, &mut merge, 0, &[9, 1, 3, 5, 4])?;
+    hold(&rt, alloc, &mut merge, 0, 2, &[5, 4]);
+    hold(&rt, alloc, &mut merge, 0, 0, &[9, 1]);
+    hold(&rt, alloc, &mut merge, 0, 1, &[3]);
+    gives(&rt, &mut merge, 0, &[9, 1, 3, 5, 4]);
+    drop(merge);
     Ok(())
 }
 
@@ -86,16 +110,17 @@ fn shows(rt: &impl Abort, merge: &Merge<u32>, epoch: u64, numbers: &[u32]) {
 fn requests_where_they_stand(rt: HostRuntime) -> Result<(), Fail> {
     let alloc = rt.alloc();
     let mut merge = merge_of(alloc, 2)?;
-    hold(alloc, &mut merge, 0, 1, &[5, 4])?;
+    hold(&rt, alloc, &mut merge, 0, 1, &[5, 4]);
     shows(&rt, &merge, 0, &[5, 4]);
     same(&rt, merge.pass_epoch(), Err(Fault::NotComplete));
-    hold(alloc, &mut merge, 0, 0, &[9])?;
-    hold(alloc, &mut merge, 1, 0, &[7])?;
+    hold(&rt, alloc, &mut merge, 0, 0, &[9]);
+    hold(&rt, alloc, &mut merge, 1, 0, &[7]);
     shows(&rt, &merge, 0, &[9, 5, 4]);
     same(&rt, merge.pass_epoch(), Ok(()));
     same(&rt, merge.next(), Some(1));
     shows(&rt, &merge, 1, &[7]);
     shows(&rt, &merge, 2, &[]);
+    drop(merge);
     Ok(())
 }
 
@@ -103,10 +128,10 @@ fn requests_where_they_stand(rt: HostRuntime) -> Result<(), Fail> {
 fn batches_discarded(rt: HostRuntime) -> Result<(), Fail> {
     let alloc = rt.alloc();
     let mut merge = merge_of(alloc, 2)?;
-    hold(alloc, &mut merge, 0, 0, &[9])?;
-    hold(alloc, &mut merge, 0, 1, &[5, 4])?;
-    hold(alloc, &mut merge, 0, 2, &[3])?;
-    hold(alloc, &mut merge, 1, 0, &[7])?;
+    hold(&rt, alloc, &mut merge, 0, 0, &[9]);
+    hold(&rt, alloc, &mut merge, 0, 1, &[5, 4]);
+    hold(&rt, alloc, &mut merge, 0, 2, &[3]);
+    hold(&rt, alloc, &mut merge, 1, 0, &[7]);
     same(&rt, merge.pass_epoch(), Ok(()));
     for (epoch, group) in [(0, 0), (0, 1), (0, 2), (1, 0)] {
         same(&rt, merge.held(Slot { epoch, group }).is_some(), true);
@@ -116,8 +141,9 @@ fn batches_discarded(rt: HostRuntime) -> Result<(), Fail> {
         same(&rt, merge.held(Slot { epoch, group }).is_some(), there);
     }
     same(&rt, merge.next(), Some(1));
-    same(&rt, hold(alloc, &mut merge, 0, 1, &[6])?, true);
-    same(&rt, hold(alloc, &mut merge, 0, 1, &[5])?, false);
+    hold(&rt, alloc, &mut merge, 0, 1, &[6]);
+    same(&rt, held(alloc, &mut merge, 0, 1, &[5]), Ok(false));
+    drop(merge);
     Ok(())
 }
 
@@ -125,12 +151,13 @@ fn batches_discarded(rt: HostRuntime) -> Result<(), Fail> {
 fn an_empty_batch(rt: HostRuntime) -> Result<(), Fail> {
     let alloc = rt.alloc();
     let mut merge = merge_of(alloc, 2)?;
-    hold(alloc, &mut merge, 0, 0, &[])?;
-    hold(alloc, &mut merge, 0, 1, &[8])?;
-    gives(&rt, &mut merge, 0, &[8])?;
-    hold(alloc, &mut merge, 1, 0, &[])?;
-    hold(alloc, &mut merge, 1, 1, &[])?;
-    gives(&rt, &mut merge, 1, &[])?;
+    hold(&rt, alloc, &mut merge, 0, 0, &[]);
+    hold(&rt, alloc, &mut merge, 0, 1, &[8]);
+    gives(&rt, &mut merge, 0, &[8]);
+    hold(&rt, alloc, &mut merge, 1, 0, &[]);
+    hold(&rt, alloc, &mut merge, 1, 1, &[]);
+    gives(&rt, &mut merge, 1, &[]);
+    drop(merge);
     Ok(())
 }
 
@@ -138,18 +165,15 @@ fn an_empty_batch(rt: HostRuntime) -> Result<(), Fail> {
 fn a_missing_batch(rt: HostRuntime) -> Result<(), Fail> {
     let alloc = rt.alloc();
     let mut merge = merge_of(alloc, 2)?;
-    hold(alloc, &mut merge, 0, 0, &[1])?;
-    hold(alloc, &mut merge, 1, 1, &[2])?;
-    hold(alloc, &mut merge, 0, 2, &[3])?;
-    merge.reserve_take_epoch()?;
-    let refused = merge.take_epoch();
-    same(&rt, refused.is_err(), true);
-    if let Err(fault) = refused {
-        same(&rt, fault.number(), 34);
-    }
+    hold(&rt, alloc, &mut merge, 0, 0, &[1]);
+    hold(&rt, alloc, &mut merge, 1, 1, &[2]);
+    hold(&rt, alloc, &mut merge, 0, 2, &[3]);
+    same(&rt, merge.reserve_take_epoch(), Ok(()));
+    lacks(&rt, &mut merge);
     same(&rt, merge.next(), Some(0));
-    hold(alloc, &mut merge, 0, 1, &[4])?;
-    gives(&rt, &mut merge, 0, &[1, 4])?;
+    hold(&rt, alloc, &mut merge, 0, 1, &[4]);
+    gives(&rt, &mut merge, 0, &[1, 4]);
+    drop(merge);
     Ok(())
 }
 
@@ -165,13 +189,14 @@ fn several_epochs(rt: HostRuntime) -> Result<(), Fail> {
         (1, 1, 4),
         (0, 0, 1),
     ] {
-        same(&rt, hold(alloc, &mut merge, epoch, group, &[number])?, true);
+        hold(&rt, alloc, &mut merge, epoch, group, &[number]);
     }
-    gives(&rt, &mut merge, 0, &[1, 2])?;
-    gives(&rt, &mut merge, 1, &[3, 4])?;
-    gives(&rt, &mut merge, 2, &[5, 6])?;
+    gives(&rt, &mut merge, 0, &[1, 2]);
+    gives(&rt, &mut merge, 1, &[3, 4]);
+    gives(&rt, &mut merge, 2, &[5, 6]);
     same(&rt, merge.next(), Some(3));
-    same(&rt, merge.take_epoch().is_err(), true);
+    lacks(&rt, &mut merge);
+    drop(merge);
     Ok(())
 }
 
@@ -186,27 +211,71 @@ fn past_the_last_epoch(rt: HostRuntime) -> Result<(), Fail> {
     let alloc = rt.alloc();
     let config = Config::new(1, 1)?;
     let mut last = Merge::from_epoch(alloc, &config, Some(u64::MAX));
-    same(&rt, hold(alloc, &mut last, u64::MAX, 0, &[1])?, true);
-    gives(&rt, &mut last, u64::MAX, &[1])?;
+    hold(&rt, alloc, &mut last, u64::MAX, 0, &[1]);
+    gives(&rt, &mut last, u64::MAX, &[1]);
     is_spent(&rt, &mut last);
+    drop(last);
     let mut spent = Merge::from_epoch(alloc, &config, None);
-    same(&rt, hold(alloc, &mut spent, u64::MAX, 0, &[1])?, true);
+    hold(&rt, alloc, &mut spent, u64::MAX, 0, &[1]);
     is_spent(&rt, &mut spent);
+    drop(spent);
+    Ok(())
+}
+
+/// A batch is held for an epoch, and taken, for which room was reserved.
+fn hold_reserved(
+    rt: &impl Abort,
+    alloc: Global,
+    merge: &mut Merge<u32>,
+    epoch: u64,
+) -> Result<(), Fault> {
+    let numbers = batch(alloc, &[1, 2, 3])?;
+    merge.reserve_hold()?;
+    same(rt, merge.hold(Slot { epoch, group: 0 }, numbers), Ok(true));
+    merge.reserve_take_epoch()?;
+    gives(rt, merge, epoch, &[1, 2, 3]);
     Ok(())
 }
 
 #[test]
 fn reserved(rt: HostRuntime) -> Result<(), Fail> {
-    let alloc = rt.alloc();
-    let mut merge = merge_of(alloc, 1)?;
+    let mut merge = merge_of(rt.alloc(), 1)?;
     for epoch in 0..40 {
-        let numbers = batch(alloc, &[1, 2, 3])?;
-        merge.reserve_hold()?;
-        same(&rt, merge.hold(Slot { epoch, group: 0 }, numbers)?, true);
-        merge.reserve_take_epoch()?;
-        gives(&rt, &mut merge, epoch, &[1, 2, 3])?;
+        let held = hold_reserved(&rt, rt.alloc(), &mut merge, epoch);
+        same(&rt, (epoch, held), (epoch, Ok(())));
+    }
+    drop(merge);
+    Ok(())
+}
+
+/// A batch comes to be held where memory is refused once: then nothing is held, and the same call made again does its work.
+fn hold_refused_once(
+    rt: &impl Abort,
+    merge: &mut Merge<u32>,
+    held: Batch<u32>,
+) -> Result<(), Fault> {
+    let again = held.copy()?;
+    let slot = Slot { epoch: 0, group: 0 };
+    if let Err(fault) = merge.hold(slot, held) {
+        same(rt, fault.number(), 1);
+        same(rt, merge.held(slot).is_none(), true);
+        same(rt, merge.hold(slot, again), Ok(true));
     }
     Ok(())
+}
+
+/// An epoch is taken where memory is refused once: then it still is the next one, and is taken when that is tried again.
+fn take_refused_once(rt: &impl Abort, merge: &mut Merge<u32>, numbers: &[u32]) {
+    if let Err(fault) = merge.reserve_take_epoch() {
+        same(rt, fault.number(), 1);
+    }
+    match merge.take_epoch() {
+        Ok(taken) => check_taken(rt, &taken, 0, numbers),
+        Err(fault) => {
+            same(rt, fault.number(), 1);
+            gives(rt, merge, 0, numbers);
+        }
+    }
 }
 
 /// Where memory is refused once, nothing has changed, and the same call made again does its work.
@@ -214,25 +283,14 @@ fn reserved(rt: HostRuntime) -> Result<(), Fail> {
 fn refused_once(rt: HostRuntime) -> Result<(), Fail> {
     let alloc = rt.alloc();
     let numbers = [1, 2, 3];
-    let held = batch(alloc, &numbers).or_else(|_fault| batch(alloc, &numbers))?;
-    let again = held.copy()?;
+    let batch = batch(alloc, &numbers).or_else(|_fault| batch(alloc, &numbers))?;
     let mut merge = merge_of(alloc, 1)?;
-    let slot = Slot { epoch: 0, group: 0 };
-    if let Err(fault) = merge.hold(slot, held) {
-        same(&rt, fault.number(), 1);
-        same(&rt, merge.held(slot).is_none(), true);
-        same(&rt, merge.hold(slot, again)?, true);
+    let held = hold_refused_once(&rt, &mut merge, batch);
+    if held.is_ok() {
+        take_refused_once(&rt, &mut merge, &numbers);
     }
-    if let Err(fault) = merge.reserve_take_epoch() {
-        same(&rt, fault.number(), 1);
-    }
-    match merge.take_epoch() {
-        Ok(taken) => same(&rt, taken.len(), 3),
-        Err(fault) => {
-            same(&rt, fault.number(), 1);
-            gives(&rt, &mut merge, 0, &numbers)?;
-        }
-    }
+    drop(merge);
+    held?;
     Ok(())
 }
 

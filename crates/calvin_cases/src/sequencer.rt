@@ -111,10 +111,14 @@ fn limit_of_a_batch(
 
 #[test]
 fn limits(rt: HostRuntime) -> Result<(), Fail> {
-    let mut sequencer = Sequencer::new(rt.alloc(), 0);
-    limit_of_a_queue(&rt, rt.alloc(), &mut sequencer)?;
-    let mut sequencer = Sequencer::new(rt.alloc(), 0);
-    limit_of_a_batch(&rt, rt.alloc(), &mut sequencer)?;
+    let mut one = Sequencer::new(rt.alloc(), 0);
+    let mut other = Sequencer::new(rt.alloc(), 0);
+    let of_a_queue = limit_of_a_queue(&rt, rt.alloc(), &mut one);
+    let of_a_batch = limit_of_a_batch(&rt, rt.alloc(), &mut other);
+    drop(one);
+    drop(other);
+    of_a_queue?;
+    of_a_batch?;
     Ok(())
 }
 
@@ -200,7 +204,10 @@ fn refuse_by_attempts(
 fn lesser_refusals_first(rt: HostRuntime) -> Result<(), Fail> {
     let mut empty = Sequencer::new(rt.alloc(), 1);
     let mut full = Sequencer::new(rt.alloc(), 1);
-    refuse_by_attempts(&rt, rt.alloc(), &mut empty, &mut full)?;
+    let outcome = refuse_by_attempts(&rt, rt.alloc(), &mut empty, &mut full);
+    drop(empty);
+    drop(full);
+    outcome?;
     Ok(())
 }
 
@@ -237,34 +244,43 @@ fn close_three(
     submit(alloc, sequencer, 4)
 }
 
-/// Requests 1, 2 and 3 are closed for epoch 0, 4 is queued, and these are decided for an epoch: epoch 1 has these numbers.
+/// Requests 1, 2 and 3 are closed for epoch 0, 4 is queued, and these are decided for an epoch. The epoch that is closed next
+/// is told, which has these numbers.
 fn leaves(
     rt: &impl Abort,
     alloc: Global,
+    sequencer: &mut Sequencer<u64>,
     epoch: u64,
     decided: &[(u32, u8)],
-    next: u64,
     numbers: &[u32],
-) -> Result<(), Fault> {
-    let mut sequencer = Sequencer::new(alloc, 0);
-    close_three(rt, alloc, &mut sequencer)?;
-    decide(rt, alloc, &mut sequencer, epoch, decided)?;
-    decide(rt, alloc, &mut sequencer, epoch, &[])?;
+) -> Result<u64, Fault> {
+    close_three(rt, alloc, sequencer)?;
+    decide(rt, alloc, sequencer, epoch, decided)?;
+    decide(rt, alloc, sequencer, epoch, &[])?;
     same(rt, sequencer.queued(), numbers.len());
-    has_closed(rt, &sequencer, 0, &[1, 2, 3]);
-    closes(rt, &mut sequencer, next, numbers)
+    has_closed(rt, sequencer, 0, &[1, 2, 3]);
+    let next = sequencer.close()?;
+    has_closed(rt, sequencer, next, numbers);
+    Ok(next)
 }
 
 #[test]
 fn leftover_requests(rt: HostRuntime) -> Result<(), Fail> {
-    let alloc = rt.alloc();
-    leaves(&rt, alloc, 0, &[(1, 1), (2, 1), (3, 1)], 1, &[4])?;
-    leaves(&rt, alloc, 0, &[(2, 1)], 1, &[1, 3, 4])?;
-    leaves(&rt, alloc, 0, &[(9, 1), (3, 1)], 1, &[1, 2, 4])?;
-    leaves(&rt, alloc, 0, &[(1, 2), (2, 1)], 1, &[1, 3, 4])?;
-    leaves(&rt, alloc, 0, &[], 1, &[1, 2, 3, 4])?;
-    leaves(&rt, alloc, 1, &[], 2, &[4])?;
-    leaves(&rt, alloc, 2, &[(1, 1)], 1, &[4])?;
+    let cases: [(u64, &[(u32, u8)], u64, &[u32]); 7] = [
+        (0, &[(1, 1), (2, 1), (3, 1)], 1, &[4]),
+        (0, &[(2, 1)], 1, &[1, 3, 4]),
+        (0, &[(9, 1), (3, 1)], 1, &[1, 2, 4]),
+        (0, &[(1, 2), (2, 1)], 1, &[1, 3, 4]),
+        (0, &[], 1, &[1, 2, 3, 4]),
+        (1, &[], 2, &[4]),
+        (2, &[(1, 1)], 1, &[4]),
+    ];
+    for (epoch, decided, next, numbers) in cases {
+        let mut sequencer = Sequencer::new(rt.alloc(), 0);
+        let found = leaves(&rt, rt.alloc(), &mut sequencer, epoch, decided, numbers);
+        drop(sequencer);
+        same(&rt, (epoch, found), (epoch, Ok(next)));
+    }
     Ok(())
 }
 
@@ -296,7 +312,9 @@ fn holds_back(
     batches: [&[u32]; 5],
 ) -> Result<(), Fault> {
     let mut sequencer = Sequencer::new(alloc, delay);
-    closes_in_turn(rt, alloc, &mut sequencer, batches)
+    let outcome = closes_in_turn(rt, alloc, &mut sequencer, batches);
+    drop(sequencer);
+    outcome
 }
 
 #[test]
@@ -327,7 +345,9 @@ fn close_the_last(
 #[test]
 fn refused_closing_counts_for_none(rt: HostRuntime) -> Result<(), Fail> {
     let mut sequencer = Sequencer::from_epoch(rt.alloc(), 2, Some(MOST_EPOCHS - 1));
-    close_the_last(&rt, rt.alloc(), &mut sequencer)?;
+    let outcome = close_the_last(&rt, rt.alloc(), &mut sequencer);
+    drop(sequencer);
+    outcome?;
     Ok(())
 }
 
@@ -350,7 +370,9 @@ fn pass_epochs(
 #[test]
 fn epochs_that_are_passed(rt: HostRuntime) -> Result<(), Fail> {
     let mut sequencer = Sequencer::from_epoch(rt.alloc(), 0, Some(3));
-    pass_epochs(&rt, rt.alloc(), &mut sequencer)?;
+    let outcome = pass_epochs(&rt, rt.alloc(), &mut sequencer);
+    drop(sequencer);
+    outcome?;
     Ok(())
 }
 
@@ -359,6 +381,7 @@ fn past_the_last_epoch(rt: HostRuntime) {
     let mut spent: Sequencer<u64> = Sequencer::from_epoch(rt.alloc(), 0, None);
     same(&rt, spent.next_epoch(), None);
     same(&rt, refusal(&spent.close()), 33);
+    drop(spent);
 }
 
 /// Each call, after the one that makes room for it.
@@ -381,6 +404,8 @@ fn reserve_each(
 #[test]
 fn room_made_first(rt: HostRuntime) -> Result<(), Fail> {
     let mut sequencer = Sequencer::new(rt.alloc(), 1);
-    reserve_each(&rt, rt.alloc(), &mut sequencer)?;
+    let outcome = reserve_each(&rt, rt.alloc(), &mut sequencer);
+    drop(sequencer);
+    outcome?;
     Ok(())
 }

@@ -1,12 +1,10 @@
 //! Two replicas of two partitions: node 0 is partition 0 of replica 0, node 1 is partition 1 of it, and nodes 2 and 3 are
 //! those of replica 1. Key 2 is stored in partition 0, key 1 in partition 1.
-use crate::checks::same;
-use crate::nodes::{Nodes, Step, number_of};
-use crate::shown::{Sent, key, place};
+use crate::checks::{check_stands, refuse, run, same};
 use calvin_app::{Answer, KvReply, KvRequest};
 use calvin_lock::{ListLocks, Locks, QueueLocks};
+use calvin_node_steps::{Nodes, Sent, Step, number_of, place};
 use calvin_packets::{Address, Content, Packet};
-use calvin_store::Rows;
 use calvin_types::{Fault, NodeId, Place, RequestId, Slot};
 use std::alloc::Global;
 use std::process::Abort;
@@ -35,8 +33,9 @@ fn agree<L: Locks + Drop>(
     args: KvRequest,
 ) {
     let first = nodes.packets().len();
-    nodes.run(
+    run(
         rt,
+        nodes,
         &[
             Step::Submit(0, number, args),
             Step::Close(0),
@@ -53,7 +52,7 @@ fn run_epoch<L: Locks + Drop>(rt: &impl Abort, nodes: &mut Nodes<L>, epoch: u64)
     let first = nodes.packets().len();
     let at = place(epoch, 0);
     for node in 0..4 {
-        nodes.run(rt, &[Step::Merge(node), Step::Lock(node)]);
+        run(rt, nodes, &[Step::Merge(node), Step::Lock(node)]);
         let _begun = nodes.step(&Step::Begin(node, at));
     }
     nodes.settle(first);
@@ -65,7 +64,7 @@ fn run_epoch<L: Locks + Drop>(rt: &impl Abort, nodes: &mut Nodes<L>, epoch: u64)
 /// Every node stands at the end of an epoch.
 fn check_all<L: Locks + Drop>(rt: &impl Abort, nodes: &Nodes<L>, epoch: u64, rows: usize) {
     for node in 0..4 {
-        nodes.check_stands(rt, node, Some(epoch), rows);
+        check_stands(rt, nodes, node, Some(epoch), rows);
     }
 }
 
@@ -74,7 +73,7 @@ fn up_to_epoch_two<L: Locks + Drop>(rt: &impl Abort, alloc: Global) -> Result<No
     let mut nodes: Nodes<L> = Nodes::new(alloc, 2, 2)?;
     agree(rt, &mut nodes, 0, 1, KvRequest::Put(1, 10));
     run_epoch(rt, &mut nodes, 0);
-    nodes.run(rt, &[Step::Snapshot(LATE, 0)]);
+    run(rt, &mut nodes, &[Step::Snapshot(LATE, 0)]);
     agree(rt, &mut nodes, 1, 2, KvRequest::Move(1, 2, 7));
     run_epoch(rt, &mut nodes, 1);
     agree(rt, &mut nodes, 2, 3, KvRequest::Move(1, 2, 2));
@@ -83,18 +82,14 @@ fn up_to_epoch_two<L: Locks + Drop>(rt: &impl Abort, alloc: Global) -> Result<No
     Ok(nodes)
 }
 
-/// The row of a key at a node.
-fn row<L: Locks + Drop>(nodes: &Nodes<L>, node: usize, id: u64) -> Result<Option<u64>, Fault> {
-    Ok(nodes.node(node)?.rows().get(&key(id)))
-}
-
 #[test]
 fn moved_between_partitions(rt: HostRuntime) -> Result<(), Fail> {
     let nodes: Nodes<ListLocks> = up_to_epoch_two(&rt, rt.alloc())?;
-    same(&rt, row(&nodes, 0, 2)?, Some(9));
-    same(&rt, row(&nodes, 1, 1)?, Some(1));
-    same(&rt, row(&nodes, 2, 2)?, Some(9));
-    same(&rt, row(&nodes, 3, 1)?, Some(1));
+    same(&rt, nodes.row(0, 2), Some(9));
+    same(&rt, nodes.row(1, 1), Some(1));
+    same(&rt, nodes.row(2, 2), Some(9));
+    same(&rt, nodes.row(3, 1), Some(1));
+    nodes.end();
     Ok(())
 }
 
@@ -110,8 +105,9 @@ fn reply(epoch: u64, number: u32) -> Sent {
 
 /// The late node asks its neighbour for the batches of an epoch.
 fn ask_batches<L: Locks + Drop>(rt: &impl Abort, nodes: &mut Nodes<L>, epoch: u64) {
-    nodes.run(
+    run(
         rt,
+        nodes,
         &[
             Step::AskBatch(LATE, Slot { epoch, group: 0 }, NEIGHBOUR),
             Step::AskBatch(LATE, Slot { epoch, group: 1 }, NEIGHBOUR),
@@ -121,25 +117,26 @@ fn ask_batches<L: Locks + Drop>(rt: &impl Abort, nodes: &mut Nodes<L>, epoch: u6
 
 /// The late node begins the request at a place, asks replica 0 for the rows of partition 1, and runs it.
 fn run_late<L: Locks + Drop>(rt: &impl Abort, nodes: &mut Nodes<L>, at: Place) {
-    nodes.run(rt, &[Step::Begin(LATE, at)]);
+    run(rt, nodes, &[Step::Begin(LATE, at)]);
     let first = nodes.packets().len();
-    nodes.refuse(rt, Step::Finish(LATE, at), 44);
-    nodes.run(rt, &[Step::AskReads(LATE, at, 0)]);
+    refuse(rt, nodes, Step::Finish(LATE, at), 44);
+    run(rt, nodes, &[Step::AskReads(LATE, at, 0)]);
     nodes.settle(first);
-    nodes.run(rt, &[Step::Finish(LATE, at)]);
+    run(rt, nodes, &[Step::Finish(LATE, at)]);
 }
 
 /// The late node comes back with the rows of epoch 0, and replays the epochs that its neighbour tells it.
 fn catch_up<L: Locks + Drop>(rt: &impl Abort, alloc: Global) -> Result<(), Fault> {
     let mut nodes: Nodes<L> = up_to_epoch_two(rt, alloc)?;
     let first = nodes.packets().len();
-    nodes.run(rt, &[Step::Restart(LATE)]);
-    nodes.check_stands(rt, LATE, Some(0), 0);
+    run(rt, &mut nodes, &[Step::Restart(LATE)]);
+    check_stands(rt, &nodes, LATE, Some(0), 0);
     ask_batches(rt, &mut nodes, 1);
     ask_batches(rt, &mut nodes, 2);
     nodes.settle(first);
-    nodes.run(
+    run(
         rt,
+        &mut nodes,
         &[
             Step::Merge(LATE),
             Step::Merge(LATE),
@@ -149,9 +146,10 @@ fn catch_up<L: Locks + Drop>(rt: &impl Abort, alloc: Global) -> Result<(), Fault
     );
     run_late(rt, &mut nodes, place(1, 0));
     run_late(rt, &mut nodes, place(2, 0));
-    nodes.check_stands(rt, LATE, Some(2), 1);
-    same(rt, row(&nodes, LATE, 2)?, Some(9));
+    check_stands(rt, &nodes, LATE, Some(2), 1);
+    same(rt, nodes.row(LATE, 2), Some(9));
     check_replies(rt, &nodes, first);
+    nodes.end();
     Ok(())
 }
 
@@ -171,18 +169,20 @@ fn ask_before_it_begins(rt: &impl Abort, alloc: Global) -> Result<(), Fault> {
     let mut nodes: Nodes<ListLocks> = Nodes::new(alloc, 2, 2)?;
     agree(rt, &mut nodes, 0, 1, KvRequest::Move(1, 2, 7));
     for node in 0..2 {
-        nodes.run(rt, &[Step::Merge(node), Step::Lock(node)]);
+        run(rt, &mut nodes, &[Step::Merge(node), Step::Lock(node)]);
     }
-    nodes.run(
+    run(
         rt,
+        &mut nodes,
         &[
             Step::Begin(0, place(0, 0)),
             Step::AskReads(0, place(0, 0), 0),
         ],
     );
     let asked = nodes.packets().len();
-    nodes.refuse(rt, Step::Deliver(asked.saturating_sub(1)), 47);
+    refuse(rt, &mut nodes, Step::Deliver(asked.saturating_sub(1)), 47);
     same(rt, nodes.packets().len(), asked);
+    nodes.end();
     Ok(())
 }
 
@@ -226,21 +226,22 @@ fn former_packets_again(rt: HostRuntime) -> Result<(), Fail> {
     let mut nodes: Nodes<QueueLocks> = up_to_epoch_two(&rt, rt.alloc())?;
     let first = nodes.packets().len();
     // Another prepare is refused, and batches and rows are asked for once more.
-    nodes.run(&rt, &[Step::Deliver(0), Step::Restart(LATE)]);
+    run(&rt, &mut nodes, &[Step::Deliver(0), Step::Restart(LATE)]);
     ask_batches(&rt, &mut nodes, 1);
     ask_batches(&rt, &mut nodes, 2);
     nodes.settle(first);
-    nodes.run(&rt, &[Step::Merge(LATE), Step::Lock(LATE)]);
+    run(&rt, &mut nodes, &[Step::Merge(LATE), Step::Lock(LATE)]);
     run_late(&rt, &mut nodes, place(1, 0));
     let mut refused = [0; 5];
     let last = nodes.packets().len();
     for (number, replica, partition) in [(0, 0, 0), (1, 0, 1), (2, 1, 0), (3, 1, 1)] {
-        nodes.run(&rt, &[Step::Restart(number)]);
+        run(&rt, &mut nodes, &[Step::Restart(number)]);
         let id = NodeId { replica, partition };
         deliver_again(&rt, &mut nodes, id, last, &mut refused);
     }
     for (i, times) in refused.iter().enumerate() {
         same(&rt, (i, *times > 0), (i, true));
     }
+    nodes.end();
     Ok(())
 }

@@ -1,11 +1,9 @@
 //! One node alone: a majority of one decides.
-use crate::checks::same;
-use crate::letters::{X, check_letter, prepare};
-use crate::nodes::{Nodes, Step, number_of};
-use crate::shown::{key, place, request};
+use crate::checks::{check_letter, check_stands, holds, refuse, run, same};
 use calvin_app::{Answer, KvReply, KvRequest};
 use calvin_lock::{ListLocks, Locks, QueueLocks};
 use calvin_node::Act;
+use calvin_node_steps::{Nodes, Step, X, key, number_of, place, prepare, request};
 use calvin_packets::{Address, Content, Packet};
 use calvin_types::{Fault, NodeId, RequestId};
 use std::alloc::Global;
@@ -19,8 +17,9 @@ const NODE: NodeId = NodeId {
 
 /// A request is decided for epoch 0, by the packets 0 to 3.
 fn decide<L: Locks + Drop>(rt: &impl Abort, nodes: &mut Nodes<L>) {
-    nodes.run(
+    run(
         rt,
+        nodes,
         &[
             Step::Submit(0, 1, X),
             Step::Close(0),
@@ -35,8 +34,9 @@ fn decide<L: Locks + Drop>(rt: &impl Abort, nodes: &mut Nodes<L>) {
 
 /// The request that was decided is run. Its reply is packet 4.
 fn run_decided<L: Locks + Drop>(rt: &impl Abort, nodes: &mut Nodes<L>) {
-    nodes.run(
+    run(
         rt,
+        nodes,
         &[
             Step::Merge(0),
             Step::Lock(0),
@@ -57,7 +57,7 @@ fn check_reply<L: Locks + Drop>(rt: &impl Abort, nodes: &Nodes<L>) {
         to: Address::AtClient(7),
         content: Content::Replies(place(0, 0), id, 1, Answer::Reply(KvReply::Done)),
     };
-    nodes.check_sent(rt, 4, &reply);
+    holds(rt, nodes.has_sent(4, &reply));
     same(rt, nodes.packets().len(), 5);
 }
 
@@ -65,9 +65,10 @@ fn one_request<L: Locks + Drop>(rt: &impl Abort, alloc: Global) -> Result<(), Fa
     let mut nodes: Nodes<L> = Nodes::new(alloc, 1, 1)?;
     decide(rt, &mut nodes);
     run_decided(rt, &mut nodes);
-    nodes.check_stands(rt, 0, Some(0), 1);
+    check_stands(rt, &nodes, 0, Some(0), 1);
     check_reply(rt, &nodes);
-    nodes.refuse(rt, Step::Deliver(4), 52);
+    refuse(rt, &mut nodes, Step::Deliver(4), 52);
+    nodes.end();
     Ok(())
 }
 
@@ -106,7 +107,8 @@ fn one_node_run_by_names(rt: HostRuntime) -> Result<(), Fail> {
     );
     check_reply(&rt, &nodes);
     act_all(&rt, &mut nodes, &[Act::Snapshot(0), Act::Restart]);
-    nodes.check_stands(&rt, 0, Some(0), 1);
+    check_stands(&rt, &nodes, 0, Some(0), 1);
+    nodes.end();
     Ok(())
 }
 
@@ -119,14 +121,16 @@ fn plain_rows(rt: HostRuntime) -> Result<(), Fail> {
     same(&rt, number_of(nodes.act(0, &Act::Mark(0))), 56);
     same(&rt, number_of(nodes.act(0, &Act::Cool(key(1)))), 57);
     same(&rt, number_of(nodes.act(0, &Act::Cool(key(2)))), 55);
+    nodes.end();
     Ok(())
 }
 
 /// A node is restarted, or opened from its record, while it waits for promises.
 fn between_phases(rt: &impl Abort, alloc: Global, again: Step) -> Result<(), Fault> {
     let mut nodes: Nodes<ListLocks> = Nodes::new(alloc, 1, 1)?;
-    nodes.run(
+    run(
         rt,
+        &mut nodes,
         &[
             Step::Submit(0, 1, X),
             Step::Close(0),
@@ -135,14 +139,16 @@ fn between_phases(rt: &impl Abort, alloc: Global, again: Step) -> Result<(), Fau
             again,
         ],
     );
-    nodes.refuse(rt, Step::Deliver(1), 21);
-    nodes.refuse(rt, Step::Propose(0, 0), 35);
-    nodes.check_stands(rt, 0, None, 0);
-    nodes.run(
+    refuse(rt, &mut nodes, Step::Deliver(1), 21);
+    refuse(rt, &mut nodes, Step::Propose(0, 0), 35);
+    check_stands(rt, &nodes, 0, None, 0);
+    run(
         rt,
+        &mut nodes,
         &[Step::Submit(0, 1, X), Step::Close(0), Step::Propose(0, 0)],
     );
     check_letter(rt, &nodes, 2, 0, 0, prepare(2, 0));
+    nodes.end();
     Ok(())
 }
 
@@ -163,12 +169,13 @@ fn after_a_snapshot(rt: &impl Abort, alloc: Global, again: Step) -> Result<(), F
     let mut nodes: Nodes<QueueLocks> = Nodes::new(alloc, 1, 1)?;
     decide(rt, &mut nodes);
     run_decided(rt, &mut nodes);
-    nodes.run(rt, &[Step::Snapshot(0, 0)]);
-    nodes.refuse(rt, Step::Snapshot(0, 0), 51);
-    nodes.run(rt, &[again]);
-    nodes.refuse(rt, Step::Merge(0), 34);
-    nodes.run(rt, &[Step::Deliver(3)]);
-    nodes.check_stands(rt, 0, Some(0), 1);
+    run(rt, &mut nodes, &[Step::Snapshot(0, 0)]);
+    refuse(rt, &mut nodes, Step::Snapshot(0, 0), 51);
+    run(rt, &mut nodes, &[again]);
+    refuse(rt, &mut nodes, Step::Merge(0), 34);
+    run(rt, &mut nodes, &[Step::Deliver(3)]);
+    check_stands(rt, &nodes, 0, Some(0), 1);
+    nodes.end();
     Ok(())
 }
 
@@ -188,14 +195,16 @@ fn opened_from_a_snapshot(rt: HostRuntime) -> Result<(), Fail> {
 #[test]
 fn snapshot_at_its_point(rt: HostRuntime) -> Result<(), Fail> {
     let mut nodes: Nodes<ListLocks> = Nodes::new(rt.alloc(), 1, 1)?;
-    nodes.run(&rt, &[Step::Close(0), Step::Propose(0, 0)]);
-    nodes.run(
+    run(&rt, &mut nodes, &[Step::Close(0), Step::Propose(0, 0)]);
+    run(
         &rt,
+        &mut nodes,
         &[Step::Submit(0, 1, X), Step::Close(0), Step::Propose(0, 1)],
     );
     nodes.settle(0);
-    nodes.run(
+    run(
         &rt,
+        &mut nodes,
         &[
             Step::Merge(0),
             Step::Merge(0),
@@ -204,8 +213,9 @@ fn snapshot_at_its_point(rt: HostRuntime) -> Result<(), Fail> {
             Step::Finish(0, place(1, 0)),
         ],
     );
-    nodes.refuse(&rt, Step::Snapshot(0, 0), 50);
-    nodes.run(&rt, &[Step::Snapshot(0, 1)]);
-    nodes.refuse(&rt, Step::Snapshot(0, 1), 51);
+    refuse(&rt, &mut nodes, Step::Snapshot(0, 0), 50);
+    run(&rt, &mut nodes, &[Step::Snapshot(0, 1)]);
+    refuse(&rt, &mut nodes, Step::Snapshot(0, 1), 51);
+    nodes.end();
     Ok(())
 }

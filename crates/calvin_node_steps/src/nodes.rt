@@ -1,7 +1,8 @@
 //! Nodes side by side, and the list of all that they sent.
 use crate::alike::{have_sent_same, tell_same};
-use crate::checks::same;
-use crate::shown::{Sent, copied, is_same, key, request};
+use crate::letters::is_letter;
+use crate::shown::{Letter, Sent, copied, is_same, key, request};
+use crate::step::{Step, number_of};
 use calvin_app::{Kv, KvRequest};
 use calvin_lock::Locks;
 use calvin_node::{Act, Durable, Node};
@@ -9,46 +10,16 @@ use calvin_packets::Outbox;
 use calvin_store::{PlainRows, Rows};
 use calvin_types::{Config, Fault, NodeId, Place, Slot};
 use std::alloc::Global;
-use std::process::Abort;
 
 /// More packets than any case sends.
 const MOST_PACKETS: usize = 1000;
 
 /// A node that runs numbers by key.
-pub(crate) type Numbers<L, S = PlainRows<u64>> = Node<Kv, L, S>;
-
-/// An event of a node, which is named by its number among the nodes, or of the packet of a number.
-#[derive(Clone, Copy)]
-pub(crate) enum Step {
-    /// A request of client 7, with this number.
-    Submit(usize, u32, KvRequest),
-    /// The same, and the request is held back.
-    SubmitCold(usize, u32, KvRequest),
-    Close(usize),
-    Propose(usize, u64),
-    Deliver(usize),
-    Merge(usize),
-    Lock(usize),
-    Begin(usize, Place),
-    /// The request is run beside the node, which then takes what came of it.
-    Finish(usize, Place),
-    /// The request is run by the node.
-    Run(usize, Place),
-    Snapshot(usize, u64),
-    Mark(usize, u64),
-    /// The row of the key of this number goes to the cold table.
-    Cool(usize, u64),
-    AskReads(usize, Place, u8),
-    AskBatch(usize, Slot, NodeId),
-    Restart(usize),
-    /// The last node is opened anew from its durable record. Where that is refused, it is opened from the record that was
-    /// handed back.
-    Reopen,
-}
+pub type Numbers<L, S = PlainRows<u64>> = Node<Kv, L, S>;
 
 /// All nodes, numbered from 0 replica by replica, and all packets that they sent, numbered from 0.
 #[derive(Drop)]
-pub(crate) struct Nodes<L: Locks + Drop, S: Rows<u64> + Drop = PlainRows<u64>> {
+pub struct Nodes<L: Locks + Drop, S: Rows<u64> + Drop = PlainRows<u64>> {
     alloc: Global,
     config: Config,
     nodes: Vec<Numbers<L, S>>,
@@ -71,12 +42,12 @@ fn add_replica<L: Locks + Drop, S: Rows<u64> + Drop>(
 
 impl<L: Locks + Drop, S: Rows<u64> + Drop> Nodes<L, S> {
     /// No event has happened yet, and no request will be held back.
-    pub(crate) fn new(alloc: Global, partitions: u8, replicas: u8) -> Result<Nodes<L, S>, Fault> {
+    pub fn new(alloc: Global, partitions: u8, replicas: u8) -> Result<Nodes<L, S>, Fault> {
         Nodes::of(alloc, Config::new(partitions, replicas)?)
     }
 
     /// No event has happened yet.
-    pub(crate) fn of(alloc: Global, config: Config) -> Result<Nodes<L, S>, Fault> {
+    pub fn of(alloc: Global, config: Config) -> Result<Nodes<L, S>, Fault> {
         let mut nodes = Vec::new(alloc);
         for replica in 0..config.replicas {
             add_replica(alloc, &config, replica, &mut nodes)?;
@@ -90,13 +61,17 @@ impl<L: Locks + Drop, S: Rows<u64> + Drop> Nodes<L, S> {
         })
     }
 
+    /// The nodes end, and what they took of memory is given back. A test that lets them go out of scope is longer to prove, by
+    /// what it takes to give each of their parts back.
+    pub fn end(self) {}
+
     /// The node of a number, to be asked.
-    pub(crate) fn node(&self, number: usize) -> Result<&Numbers<L, S>, Fault> {
+    pub fn node(&self, number: usize) -> Result<&Numbers<L, S>, Fault> {
         self.nodes.get(number).ok_or(Fault::NoNode)
     }
 
     /// All packets.
-    pub(crate) fn packets(&self) -> &[Sent] {
+    pub fn packets(&self) -> &[Sent] {
         self.sent.packets()
     }
 
@@ -145,9 +120,14 @@ impl<L: Locks + Drop, S: Rows<u64> + Drop> Nodes<L, S> {
 
     /// One more node, opened from a durable record; where that is refused, the record is handed back.
     fn open(&mut self, id: NodeId, record: Durable<Kv>) -> Result<(), (Fault, Durable<Kv>)> {
-        let node = Node::from_durable(self.alloc, &self.config, id, record)?;
-        let _pushed = self.nodes.push(node);
-        Ok(())
+        match Node::from_durable(self.alloc, &self.config, id, record) {
+            Ok(node) => {
+                // There is memory for it, where one was taken out before.
+                drop(self.nodes.push(node));
+                Ok(())
+            }
+            Err(refused) => Err(refused),
+        }
     }
 
     /// The last node is opened anew from its durable record. Where that is refused, it is opened from the record that was
@@ -160,25 +140,31 @@ impl<L: Locks + Drop, S: Rows<u64> + Drop> Nodes<L, S> {
         match self.open(id, node.into_durable()) {
             Ok(()) => Ok(()),
             Err((fault, record)) => {
-                let _opened = self.open(id, record);
+                drop(self.open(id, record));
                 Err(fault)
             }
         }
     }
 
-    /// The outbox has all packets, as before, and memory for so many more, if for four at least. A refusal leaves it.
-    pub(crate) fn leave_room(&mut self, room: usize) -> Result<(), Fault> {
-        let mut sent = Outbox::new(self.alloc);
+    /// Copies all packets to an outbox, with memory for so many more.
+    fn copy_packets(&self, sent: &mut Outbox<Kv>, room: usize) -> Result<(), Fault> {
         sent.reserve(self.packets().len().saturating_add(room))?;
         for packet in self.packets() {
             sent.push(copied(packet)?)?;
         }
+        Ok(())
+    }
+
+    /// The outbox has all packets, as before, and memory for so many more, if for four at least. A refusal leaves it.
+    pub fn leave_room(&mut self, room: usize) -> Result<(), Fault> {
+        let mut sent = Outbox::new(self.alloc);
+        self.copy_packets(&mut sent, room)?;
         self.sent = sent;
         Ok(())
     }
 
     /// Whether the same packets were sent as by others, and each node tells the same as the other of its number.
-    pub(crate) fn is_alike(&self, others: &Nodes<L, S>) -> bool {
+    pub fn is_alike(&self, others: &Nodes<L, S>) -> bool {
         self.nodes.len() == others.nodes.len()
             && have_sent_same(self.packets(), others.packets())
             && self
@@ -189,7 +175,7 @@ impl<L: Locks + Drop, S: Rows<u64> + Drop> Nodes<L, S> {
     }
 
     /// A node's own event happens, by its name.
-    pub(crate) fn act(&mut self, number: usize, act: &Act<KvRequest>) -> Result<(), Fault> {
+    pub fn act(&mut self, number: usize, act: &Act<KvRequest>) -> Result<(), Fault> {
         let Some(node) = self.nodes.get_mut(number) else {
             return Err(Fault::NoNode);
         };
@@ -197,7 +183,7 @@ impl<L: Locks + Drop, S: Rows<u64> + Drop> Nodes<L, S> {
     }
 
     /// Delivers all packets from a number on in turn, those too that are sent meanwhile. What is refused is lost.
-    pub(crate) fn settle(&mut self, first: usize) {
+    pub fn settle(&mut self, first: usize) {
         for number in first..MOST_PACKETS {
             if number >= self.packets().len() {
                 return;
@@ -207,7 +193,7 @@ impl<L: Locks + Drop, S: Rows<u64> + Drop> Nodes<L, S> {
     }
 
     /// An event happens.
-    pub(crate) fn step(&mut self, step: &Step) -> Result<(), Fault> {
+    pub fn step(&mut self, step: &Step) -> Result<(), Fault> {
         match step {
             Step::Deliver(number) => self.deliver(*number),
             Step::Reopen => self.reopen(),
@@ -229,15 +215,20 @@ impl<L: Locks + Drop, S: Rows<u64> + Drop> Nodes<L, S> {
         }
     }
 
-    /// Events happen one after another, and each takes effect.
-    pub(crate) fn run(&mut self, rt: &impl Abort, steps: &[Step]) {
+    /// Events happen one after another until one is refused: then this is its number among them, from 0, and the number of
+    /// the refusal.
+    pub fn run(&mut self, steps: &[Step]) -> Result<(), (usize, u8)> {
         for (i, step) in steps.iter().enumerate() {
-            same(rt, (i, number_of(self.step(step))), (i, 0));
+            let refusal = number_of(self.step(step));
+            if refusal > 0 {
+                return Err((i, refusal));
+            }
         }
+        Ok(())
     }
 
     /// How often a packet was sent, from the number `first` on and before the number `last`.
-    pub(crate) fn times(&self, first: usize, last: usize, packet: &Sent) -> usize {
+    pub fn times(&self, first: usize, last: usize, packet: &Sent) -> usize {
         let mut times: usize = 0;
         for number in first..last {
             if let Some(sent) = self.packets().get(number) {
@@ -250,48 +241,62 @@ impl<L: Locks + Drop, S: Rows<u64> + Drop> Nodes<L, S> {
     }
 
     /// Whether the packet of a number is for this node.
-    pub(crate) fn is_for(&self, number: usize, id: NodeId) -> bool {
+    pub fn is_for(&self, number: usize, id: NodeId) -> bool {
         match self.packets().get(number) {
             Some(packet) => packet.to.is_for(id),
             None => false,
         }
     }
 
-    /// A node stands at the end of this epoch, with so many rows.
-    pub(crate) fn check_stands(
-        &self,
-        rt: &impl Abort,
-        number: usize,
-        epoch: Option<u64>,
-        rows: usize,
-    ) {
-        match self.nodes.get(number) {
-            Some(node) => {
-                same(rt, (number, node.stands_at()), (number, epoch));
-                same(rt, (number, node.rows().len()), (number, rows));
+    /// The epoch at whose end a node stands, and how many rows it has. There is none where no node has the number.
+    pub fn stands(&self, number: usize) -> Option<(Option<u64>, usize)> {
+        let node = self.nodes.get(number)?;
+        Some((node.stands_at(), node.rows().len()))
+    }
+
+    /// The row that a node has for the key of a number. There is none where no node has its number either.
+    pub fn row(&self, number: usize, id: u64) -> Option<u64> {
+        self.nodes.get(number)?.rows().get(&key(id))
+    }
+
+    /// How many requests are queued at a node.
+    pub fn queued(&self, number: usize) -> Option<usize> {
+        Some(self.nodes.get(number)?.queued())
+    }
+
+    /// Whether two nodes hold a batch for a slot, and the same.
+    pub fn hold_same(&self, one: usize, other: usize, slot: Slot) -> bool {
+        match (self.nodes.get(one), self.nodes.get(other)) {
+            (Some(one), Some(other)) => {
+                one.held(slot).is_some() && one.held(slot) == other.held(slot)
             }
-            None => same(rt, (number, "no node"), (number, "a node")),
+            _ => false,
         }
     }
 
-    /// An event is refused with this number.
-    pub(crate) fn refuse(&mut self, rt: &impl Abort, step: Step, number: u8) {
-        same(rt, number_of(self.step(&step)), number);
-    }
-
-    /// The packet of this number is this one.
-    pub(crate) fn check_sent(&self, rt: &impl Abort, number: usize, packet: &Sent) {
+    /// Whether the packet of a number is this one.
+    pub fn has_sent(&self, number: usize, packet: &Sent) -> bool {
         match self.packets().get(number) {
-            Some(sent) => same(rt, (number, is_same(sent, packet)), (number, true)),
-            None => same(rt, (number, "no packet"), (number, "a packet")),
+            Some(sent) => is_same(sent, packet),
+            None => false,
         }
     }
-}
 
-/// The number of a refusal, or 0.
-pub(crate) fn number_of(outcome: Result<(), Fault>) -> u8 {
-    match outcome {
-        Ok(()) => 0,
-        Err(fault) => fault.number(),
+    /// Whether the packet of a number is this message, from one replica to another.
+    pub fn has_told(&self, number: usize, from: u8, to: u8, letter: &Letter) -> bool {
+        match self.packets().get(number) {
+            Some(packet) => is_letter(packet, from, to, letter),
+            None => false,
+        }
+    }
+
+    /// Whether a replica has sent this message to each of three, with the packets from a number on.
+    pub fn has_told_all(&self, first: usize, from: u8, letter: &Letter) -> bool {
+        for to in 0..3 {
+            if !self.has_told(first.saturating_add(usize::from(to)), from, to, letter) {
+                return false;
+            }
+        }
+        true
     }
 }

@@ -1,6 +1,5 @@
 //! The roles of one replica, with exact ballots and batches, and each call once with ample memory.
 use crate::checks::{holds, same};
-use crate::keys::refusal;
 use calvin_synod::{Acceptor, Learner, Member, Message, Proposer, Recorded, Vote};
 use calvin_types::{Ballot, Batch, Config, Fault, Slot};
 use std::alloc::Global;
@@ -64,6 +63,7 @@ fn acceptor(rt: HostRuntime) {
     accepts(&rt, &mut acceptor, at(3, 2), 8, None);
     records(&rt, &acceptor, at(3, 2), vote(3, 2, 8));
     holds(&rt, acceptor.recorded(Slot { group: 0, ..SLOT }).is_none());
+    drop(acceptor);
 }
 
 fn proposer_of(alloc: Global, replicas: u8, greatest: u32) -> Result<Proposer<u32>, Fault> {
@@ -111,54 +111,38 @@ fn owes(
     );
 }
 
+/// No promise reports a vote.
+fn none_reported(rt: &impl Abort, proposer: &mut Proposer<u32>) {
+    let ballot = at(1, 2);
+    same(rt, told(proposer.next_ballot()), Ok(ballot));
+    starts(rt, proposer, 7, Ok(ballot));
+    same(rt, proposer.greatest(), 1);
+    promises(rt, proposer, 0, ballot, None, Ok(None));
+    promises(rt, proposer, 0, ballot, None, Err(21));
+    promises(rt, proposer, 1, at(1, 1), None, Err(21));
+    promises(rt, proposer, 4, ballot, None, Ok(None));
+    owes(rt, proposer, 3, ballot, None, 7);
+    promises(rt, proposer, 3, ballot, None, Ok(Some(7)));
+    promises(rt, proposer, 1, ballot, None, Err(21));
+}
+
 #[test]
 fn own_batch_where_none_is_reported(rt: HostRuntime) -> Result<(), Fail> {
     let mut proposer = proposer_of(rt.alloc(), 5, 0)?;
-    let ballot = at(1, 2);
-    same(&rt, told(proposer.next_ballot()), Ok(ballot));
-    starts(&rt, &mut proposer, 7, Ok(ballot));
-    same(&rt, proposer.greatest(), 1);
-    promises(&rt, &mut proposer, 0, ballot, None, Ok(None));
-    promises(&rt, &mut proposer, 0, ballot, None, Err(21));
-    promises(&rt, &mut proposer, 1, at(1, 1), None, Err(21));
-    promises(&rt, &mut proposer, 4, ballot, None, Ok(None));
-    owes(&rt, &proposer, 3, ballot, None, 7);
-    promises(&rt, &mut proposer, 3, ballot, None, Ok(Some(7)));
-    promises(&rt, &mut proposer, 1, ballot, None, Err(21));
+    none_reported(&rt, &mut proposer);
+    drop(proposer);
     Ok(())
 }
 
 /// Three promises that report votes at these rounds, each for a batch of the round's number.
-fn highest_of(
-    rt: &impl Abort,
-    alloc: Global,
-    first: u32,
-    second: u32,
-    third: u32,
-) -> Result<(), Fault> {
-    let mut proposer = proposer_of(alloc, 5, 10)?;
+fn highest_of(rt: &impl Abort, proposer: &mut Proposer<u32>, first: u32, second: u32, third: u32) {
     let ballot = at(11, 2);
-    starts(rt, &mut proposer, 7, Ok(ballot));
-    promises(
-        rt,
-        &mut proposer,
-        0,
-        ballot,
-        vote(first, 0, first),
-        Ok(None),
-    );
-    promises(
-        rt,
-        &mut proposer,
-        1,
-        ballot,
-        vote(second, 0, second),
-        Ok(None),
-    );
+    starts(rt, proposer, 7, Ok(ballot));
+    promises(rt, proposer, 0, ballot, vote(first, 0, first), Ok(None));
+    promises(rt, proposer, 1, ballot, vote(second, 0, second), Ok(None));
     let last = vote(third, 0, third);
-    owes(rt, &proposer, 2, ballot, last.as_ref(), 9);
-    promises(rt, &mut proposer, 2, ballot, last, Ok(Some(9)));
-    Ok(())
+    owes(rt, proposer, 2, ballot, last.as_ref(), 9);
+    promises(rt, proposer, 2, ballot, last, Ok(Some(9)));
 }
 
 /// The highest vote reported, in whichever order the reports come.
@@ -172,26 +156,34 @@ fn highest_vote_reported(rt: HostRuntime) -> Result<(), Fail> {
         (9, 2, 5),
         (9, 5, 2),
     ] {
-        highest_of(&rt, rt.alloc(), first, second, third)?;
+        let mut proposer = proposer_of(rt.alloc(), 5, 10)?;
+        highest_of(&rt, &mut proposer, first, second, third);
+        drop(proposer);
     }
     Ok(())
+}
+
+/// Rounds that were refused, and the last ones.
+fn count_rounds(rt: &impl Abort, proposer: &mut Proposer<u32>) {
+    refused(rt, proposer, at(4, 9), Err(21));
+    refused(rt, proposer, at(8, 0), Ok(()));
+    refused(rt, proposer, at(8, 1), Err(21));
+    same(rt, proposer.greatest(), 4);
+    starts(rt, proposer, 7, Ok(at(9, 2)));
+    starts(rt, proposer, 8, Ok(at(10, 2)));
+    promises(rt, proposer, 0, at(9, 2), None, Err(21));
+    promises(rt, proposer, 0, at(10, 2), None, Ok(Some(8)));
+    refused(rt, proposer, at(4294967294, 0), Ok(()));
+    starts(rt, proposer, 7, Ok(at(4294967295, 2)));
+    starts(rt, proposer, 7, Err(20));
+    same(rt, told(proposer.next_ballot()), Err(20));
 }
 
 #[test]
 fn rounds(rt: HostRuntime) -> Result<(), Fail> {
     let mut proposer = proposer_of(rt.alloc(), 1, 4)?;
-    refused(&rt, &mut proposer, at(4, 9), Err(21));
-    refused(&rt, &mut proposer, at(8, 0), Ok(()));
-    refused(&rt, &mut proposer, at(8, 1), Err(21));
-    same(&rt, proposer.greatest(), 4);
-    starts(&rt, &mut proposer, 7, Ok(at(9, 2)));
-    starts(&rt, &mut proposer, 8, Ok(at(10, 2)));
-    promises(&rt, &mut proposer, 0, at(9, 2), None, Err(21));
-    promises(&rt, &mut proposer, 0, at(10, 2), None, Ok(Some(8)));
-    refused(&rt, &mut proposer, at(4294967294, 0), Ok(()));
-    starts(&rt, &mut proposer, 7, Ok(at(4294967295, 2)));
-    starts(&rt, &mut proposer, 7, Err(20));
-    same(&rt, told(proposer.next_ballot()), Err(20));
+    count_rounds(&rt, &mut proposer);
+    drop(proposer);
     Ok(())
 }
 
@@ -221,6 +213,7 @@ fn learner(rt: HostRuntime) -> Result<(), Fail> {
     counts(&rt, &mut learner, 3, SLOT, at(2, 0), Err(22));
     let later = Slot { epoch: 4, ..SLOT };
     counts(&rt, &mut learner, 3, later, at(2, 0), Ok(None));
+    drop(learner);
     Ok(())
 }
 
@@ -271,24 +264,22 @@ fn agrees(
 
 #[test]
 fn reserved(rt: HostRuntime) -> Result<(), Fail> {
+    let config = Config::new(1, 1)?;
     let mut acceptor: Acceptor<u32> = Acceptor::new(rt.alloc());
-    let mut proposer = proposer_of(rt.alloc(), 1, 0)?;
-    let mut learner = Learner::new(rt.alloc(), &Config::new(1, 1)?);
+    let mut proposer = Proposer::new(rt.alloc(), &config, 2, 0);
+    let mut learner = Learner::new(rt.alloc(), &config);
     for epoch in 0..20 {
         let slot = Slot { epoch, group: 0 };
-        agrees(&rt, &mut proposer, &mut acceptor, &mut learner, slot)?;
+        let agreed = agrees(&rt, &mut proposer, &mut acceptor, &mut learner, slot);
+        same(&rt, (epoch, agreed), (epoch, Ok(())));
     }
+    drop(acceptor);
+    drop(proposer);
+    drop(learner);
     Ok(())
 }
 
-/// Replica 2 of three, which proposed for the slot, promised its own ballot, and counted the vote of replica 0 at it.
-fn begun(alloc: Global, config: &Config, ballot: Ballot) -> Result<Member<u64>, Fault> {
-    let mut member = Member::new(alloc, config, 2);
-    begin(alloc, &mut member, ballot)?;
-    Ok(member)
-}
-
-/// A member proposes an empty batch, and gets a Prepare and a vote at this ballot.
+/// A member proposes an empty batch, promises this ballot, and counts the vote of replica 0 at it.
 fn begin(alloc: Global, member: &mut Member<u64>, ballot: Ballot) -> Result<(), Fault> {
     let batch = Batch::new(alloc, Vec::new(alloc))?;
     member.propose(SLOT, batch.copy()?)?;
@@ -304,27 +295,40 @@ fn begin(alloc: Global, member: &mut Member<u64>, ballot: Ballot) -> Result<(), 
     Ok(())
 }
 
-/// A replica that is opened from its record goes on with its promise and above its round, and has counted nothing.
-#[test]
-fn opened_from_a_record(rt: HostRuntime) -> Result<(), Fail> {
-    let config = Config::new(1, 3)?;
-    let ballot = at(1, 2);
-    let member = begun(rt.alloc(), &config, ballot)?;
-    same(&rt, told(member.completes(0, SLOT, ballot)), Err(22));
-    same(&rt, told(member.completes(1, SLOT, ballot)), Ok(true));
-    let mut opened = Member::from_record(rt.alloc(), &config, 2, member.into_record());
-    same(&rt, told(opened.completes(0, SLOT, ballot)), Ok(false));
-    same(
-        &rt,
-        opened.recorded(SLOT).map(|recorded| recorded.promise),
-        Some(ballot),
-    );
+/// The number of the refusal of a packet's message, or 0 where it is taken.
+fn refusal(member: &mut Member<u64>, from: u8, message: Message<Batch<u64>>) -> u8 {
+    match member.take(from, message) {
+        Ok(_taken) => 0,
+        Err(fault) => fault.number(),
+    }
+}
+
+/// A member that was opened goes on with its promise and above its round, and has counted nothing.
+fn check_opened(rt: &impl Abort, opened: &mut Member<u64>, ballot: Ballot) {
+    same(rt, told(opened.completes(0, SLOT, ballot)), Ok(false));
+    let promise = opened.recorded(SLOT).map(|recorded| recorded.promise);
+    same(rt, promise, Some(ballot));
     let refused = Message::Refused {
         slot: SLOT,
         ballot,
         promise: ballot,
     };
-    same(&rt, refusal(&opened.take(0, refused)), 21);
+    same(rt, refusal(opened, 0, refused), 21);
+}
+
+/// Replica 2 of three is opened from its record.
+#[test]
+fn opened_from_a_record(rt: HostRuntime) -> Result<(), Fail> {
+    let config = Config::new(1, 3)?;
+    let ballot = at(1, 2);
+    let mut member = Member::new(rt.alloc(), &config, 2);
+    let begun = begin(rt.alloc(), &mut member, ballot);
+    same(&rt, told(member.completes(0, SLOT, ballot)), Err(22));
+    same(&rt, told(member.completes(1, SLOT, ballot)), Ok(true));
+    let mut opened = Member::from_record(rt.alloc(), &config, 2, member.into_record());
+    check_opened(&rt, &mut opened, ballot);
+    drop(opened);
+    begun?;
     Ok(())
 }
 

@@ -115,37 +115,73 @@ fn are_agreed(rt: &impl Abort, ends: &[End]) -> usize {
     count
 }
 
-fn compare(rt: &impl Abort, alloc: Global, size: u8, start: u64) -> Result<usize, Fault> {
+/// Draws 600 events for a group of so many, and notes how each ends in the plain evaluation.
+fn draw_all(
+    alloc: Global,
+    size: u8,
+    start: u64,
+    plain: &mut PlainGroup,
+    events: &mut Vec<GroupEvent<Batch<u64>>>,
+    ends: &mut Vec<End>,
+) -> Result<(), Fault> {
     let mut generator = Pcg32::new(start, 7);
-    let mut plain = PlainGroup::new(alloc, size)?;
-    let mut events = Vec::new(alloc);
-    let mut ends = Vec::new(alloc);
     for number in 0..600 {
-        let (event, end) = next_event(alloc, &mut generator, size, number, &mut plain)?;
+        let (event, end) = next_event(alloc, &mut generator, size, number, plain)?;
         events.push(event)?;
         ends.push(end)?;
     }
+    Ok(())
+}
+
+/// Whether each outcome is as the plain evaluation has it.
+fn ends_are(outcomes: &[Outcome<Batch<u64>>], ends: &[End]) -> bool {
+    outcomes.len() == ends.len()
+        && outcomes
+            .iter()
+            .zip(ends.iter())
+            .all(|(outcome, end)| end_of(outcome) == *end)
+}
+
+/// Whether each packet is as the plain evaluation has it.
+fn letters_are(packets: &[Packet<Batch<u64>>], letters: &[Letter]) -> bool {
+    packets.len() == letters.len()
+        && packets
+            .iter()
+            .zip(letters.iter())
+            .all(|(packet, letter)| plain_of(packet) == *letter)
+}
+
+/// The events happen to a group, and end and send as in the plain evaluation.
+fn check_events(
+    rt: &impl Abort,
+    alloc: Global,
+    size: u8,
+    plain: &PlainGroup,
+    events: &[GroupEvent<Batch<u64>>],
+    ends: &[End],
+) -> Result<(), Fault> {
     let mut group = Group::new(alloc, &Config::new(1, size)?)?;
-    let outcomes = group.run(events.as_slice())?;
-    let mut found = Vec::new(alloc);
-    for outcome in outcomes.as_slice() {
-        found.push(end_of(outcome))?;
-    }
-    same(
-        rt,
-        (size, start, found.as_slice() == ends.as_slice()),
-        (size, start, true),
-    );
-    let mut letters = Vec::new(alloc);
-    for packet in group.packets() {
-        letters.push(plain_of(packet))?;
-    }
-    same(
-        rt,
-        (size, start, letters.as_slice() == plain.letters.as_slice()),
-        (size, start, true),
-    );
-    Ok(are_agreed(rt, ends.as_slice()))
+    let are_ends = group.run(events).map(|outcomes| ends_are(&outcomes, ends));
+    let are_letters = letters_are(group.packets(), plain.letters.as_slice());
+    drop(group);
+    same(rt, (size, are_ends), (size, Ok(true)));
+    same(rt, (size, are_letters), (size, true));
+    Ok(())
+}
+
+/// Draws events that end and send as in the plain evaluation; says how many batches were given.
+fn compare(rt: &impl Abort, alloc: Global, size: u8, start: u64) -> Result<usize, Fault> {
+    let mut plain = PlainGroup::new(alloc, size)?;
+    let mut events = Vec::new(alloc);
+    let mut ends = Vec::new(alloc);
+    let drawn = draw_all(alloc, size, start, &mut plain, &mut events, &mut ends);
+    let compared = check_events(rt, alloc, size, &plain, &events, &ends);
+    let given = are_agreed(rt, ends.as_slice());
+    drop(plain);
+    drop(events);
+    drawn?;
+    compared?;
+    Ok(given)
 }
 
 #[test]

@@ -5,19 +5,18 @@
 //! test: for each N, from 1 until `nothing_refused` has passed for many in turn, `refused_once` has to pass
 //! (`tools/check_refusals`).
 use crate::checks::{holds, same};
-use crate::nodes::{Nodes, Step, number_of};
 use crate::scarce::ScarceRows;
-use crate::shown::key;
 use calvin_app::KvRequest;
 use calvin_lock::QueueLocks;
-use calvin_store::{PlainRows, Rows};
+use calvin_node_steps::{Nodes, Step, number_of};
+use calvin_store::PlainRows;
 use calvin_types::{Config, Fault, KeySet, NodeId, Place, Slot};
 use std::alloc::Global;
 use std::process::Abort;
 use std::test::Fail;
 
 /// Nodes whose rows are plain ones that are refused a load by one growth.
-type ScarceNodes = Nodes<QueueLocks, ScarceRows<PlainRows<u64>>>;
+pub(crate) type ScarceNodes = Nodes<QueueLocks, ScarceRows<PlainRows<u64>>>;
 
 /// Nodes to which events happen; others, to which those with effect happen afterwards, so that until then they are what the
 /// first ones were before; for how many more packets there is memory at each event; and how often memory was refused.
@@ -32,12 +31,19 @@ pub(crate) struct Life {
 impl Life {
     /// No event has happened yet.
     fn new(alloc: Global, config: Config, room: usize) -> Result<Life, Fault> {
-        Ok(Life {
-            nodes: Nodes::of(alloc, config)?,
-            others: Nodes::of(alloc, config)?,
-            room,
-            refused: 0,
-        })
+        let nodes = Nodes::of(alloc, config)?;
+        match Nodes::of(alloc, config) {
+            Ok(others) => Ok(Life {
+                nodes,
+                others,
+                room,
+                refused: 0,
+            }),
+            Err(fault) => {
+                nodes.end();
+                Err(fault)
+            }
+        }
     }
 
     /// The nodes are opened, if not at once then with memory.
@@ -57,9 +63,9 @@ impl Life {
         &self.nodes
     }
 
-    /// Memory was never refused.
-    pub(crate) fn check_unrefused(&self, rt: &impl Abort) {
-        same(rt, self.refused, 0);
+    /// The life ends. Says how often memory was refused.
+    pub(crate) fn end(self) -> usize {
+        self.refused
     }
 
     /// The nodes tell the same as the others, and have sent the same packets.
@@ -119,14 +125,6 @@ impl Life {
             self.leave_room(rt);
             same(rt, number_of(self.nodes.step(step)), *number);
             self.check_alike(rt);
-        }
-    }
-
-    /// A node has this row for the key of a number.
-    pub(crate) fn check_row(&self, rt: &impl Abort, number: usize, id: u64, row: u64) {
-        match self.nodes.node(number) {
-            Ok(node) => same(rt, (number, node.rows().get(&key(id))), (number, Some(row))),
-            Err(_fault) => same(rt, (number, "no node"), (number, "a node")),
         }
     }
 }
@@ -268,8 +266,8 @@ fn live_epoch_one(life: &mut Life, rt: &impl Abort) {
 /// with the packets 32 and 33, and for rows with packet 37. Its rows for node 0 are packet 36, its reply packet 39.
 fn come_back(life: &mut Life, rt: &impl Abort) {
     life.endure_all(rt, &[Step::Restart(1), Step::Reopen]);
-    life.nodes.check_stands(rt, 1, Some(0), 1);
-    life.check_row(rt, 1, 1, 10);
+    same(rt, life.nodes.stands(1), Some((Some(0), 1)));
+    same(rt, life.nodes.row(1, 1), Some(10));
     life.endure_all(
         rt,
         &[
@@ -287,37 +285,46 @@ fn come_back(life: &mut Life, rt: &impl Abort) {
 }
 
 /// Both nodes stand at the end of epoch 1 with what was put and moved, and so many packets were sent.
-fn check_end(life: &Life, rt: &impl Abort, packets: usize) {
+fn check_end(rt: &impl Abort, nodes: &ScarceNodes, packets: usize) {
     for number in 0..2 {
-        life.nodes.check_stands(rt, number, Some(1), 1);
+        same(
+            rt,
+            (number, nodes.stands(number)),
+            (number, Some((Some(1), 1))),
+        );
     }
-    life.check_row(rt, 0, 2, 4);
-    life.check_row(rt, 1, 1, 6);
-    same(rt, life.nodes.packets().len(), packets);
+    same(rt, nodes.row(0, 2), Some(4));
+    same(rt, nodes.row(1, 1), Some(6));
+    same(rt, nodes.packets().len(), packets);
 }
 
-/// Two epochs of two nodes. There is no memory for a packet.
-fn live(rt: &impl Abort, alloc: Global) -> Result<Life, Fault> {
+/// Two epochs of two nodes.
+fn live_through(life: &mut Life, rt: &impl Abort) {
+    too_early(life, rt);
+    agree_on_the_put(life, rt);
+    run_the_put(life, rt);
+    live_epoch_one(life, rt);
+    check_end(rt, life.nodes(), 32);
+    come_back(life, rt);
+    check_end(rt, life.nodes(), 40);
+}
+
+/// The life, with memory for no packet. Says how often memory was refused.
+fn live(rt: &impl Abort, alloc: Global) -> Result<usize, Fault> {
     let config = Config::new(2, 1)?.with_delay(1)?;
     let mut life = Life::open(alloc, config, 0)?;
-    too_early(&mut life, rt);
-    agree_on_the_put(&mut life, rt);
-    run_the_put(&mut life, rt);
-    live_epoch_one(&mut life, rt);
-    check_end(&life, rt, 32);
-    come_back(&mut life, rt);
-    check_end(&life, rt, 40);
-    Ok(life)
+    live_through(&mut life, rt);
+    Ok(life.end())
 }
 
 #[test]
 fn refused_once(rt: HostRuntime) -> Result<(), Fail> {
-    let _life = live(&rt, rt.alloc())?;
+    let _times = live(&rt, rt.alloc())?;
     Ok(())
 }
 
 #[test]
 fn nothing_refused(rt: HostRuntime) -> Result<(), Fail> {
-    live(&rt, rt.alloc())?.check_unrefused(&rt);
+    same(&rt, live(&rt, rt.alloc())?, 0);
     Ok(())
 }

@@ -1,11 +1,9 @@
 //! A life of the three replicas of one partition, in which what is refused for want of memory is tried again (`enduring`). A
 //! node's number is its replica, and two of them are a majority.
 use crate::checks::{holds, same};
-use crate::enduring::Life;
-use crate::letters::{SLOT, X, at, check_letter};
-use crate::nodes::Step;
-use crate::shown::{Letter, Sent};
+use crate::enduring::{Life, ScarceNodes};
 use calvin_app::KvRequest;
+use calvin_node_steps::{SLOT, Sent, Step, X, at};
 use calvin_packets::Content;
 use calvin_synod::Message;
 use calvin_types::{Ballot, Config, Fault, Place, Slot};
@@ -24,29 +22,28 @@ const SECOND: Slot = Slot { epoch: 1, group: 0 };
 const THIRD: Slot = Slot { epoch: 2, group: 0 };
 
 /// A node has sent the prepares of a ballot of its own, from this number on.
-fn check_prepares(life: &Life, rt: &impl Abort, first: usize, slot: Slot, ballot: Ballot) {
-    for to in 0..3 {
-        let number = first.saturating_add(usize::from(to));
-        let letter = Message::Prepare { slot, ballot };
-        check_letter(rt, life.nodes(), number, ballot.replica, to, letter);
-    }
+fn check_prepares(rt: &impl Abort, nodes: &ScarceNodes, first: usize, slot: Slot, ballot: Ballot) {
+    let letter = Message::Prepare { slot, ballot };
+    let is_sent = nodes.has_told_all(first, ballot.replica, &letter);
+    same(rt, (first, is_sent), (first, true));
 }
 
 /// Node 1 or 2 has refused a ballot for epoch 1, for a promise, to the replica of the ballot.
 fn check_refused(
-    life: &Life,
     rt: &impl Abort,
+    nodes: &ScarceNodes,
     number: usize,
     from: u8,
     ballot: Ballot,
     promise: Ballot,
 ) {
-    let letter: Letter = Message::Refused {
+    let letter = Message::Refused {
         slot: SECOND,
         ballot,
         promise,
     };
-    check_letter(rt, life.nodes(), number, from, ballot.replica, letter);
+    let is_sent = nodes.has_told(number, from, ballot.replica, &letter);
+    same(rt, (number, is_sent), (number, true));
 }
 
 /// The ballot of the vote that a packet reports, if it is a promise with one.
@@ -60,20 +57,6 @@ fn voted(packet: &Sent) -> Option<Ballot> {
         ) => Some(vote.ballot),
         _ => None,
     }
-}
-
-/// Two nodes hold the same batch for a slot.
-fn check_held(
-    life: &Life,
-    rt: &impl Abort,
-    slot: Slot,
-    one: usize,
-    other: usize,
-) -> Result<(), Fault> {
-    let held = life.nodes().node(one)?.held(slot);
-    holds(rt, held.is_some());
-    holds(rt, held == life.nodes().node(other)?.held(slot));
-    Ok(())
 }
 
 /// Node 0 proposes X for epoch 0: prepares 0 to 2, promises 3 to 5, accepts 6 to 8, votes of replica 0: 9 to 11, of replica 1:
@@ -101,7 +84,7 @@ fn vote_for_x(life: &mut Life, rt: &impl Abort) {
 
 /// Node 1 begins a ballot for Y: prepares 18 to 20, promises 21 and 22 with the votes for X, accepts 23 to 25, votes of replica
 /// 0: 26 to 28, of replica 2: 29 to 31. It comes to hold X, and Y is queued again.
-fn vote_for_x_again(life: &mut Life, rt: &impl Abort) -> Result<(), Fault> {
+fn vote_for_x_again(life: &mut Life, rt: &impl Abort) {
     life.endure_all(
         rt,
         &[
@@ -117,10 +100,9 @@ fn vote_for_x_again(life: &mut Life, rt: &impl Abort) -> Result<(), Fault> {
         rt,
         &[Step::Deliver(25), Step::Deliver(27), Step::Deliver(30)],
     );
-    check_held(life, rt, SLOT, 0, 1)?;
-    check_held(life, rt, SLOT, 0, 2)?;
-    same(rt, life.nodes().node(1)?.queued(), 1);
-    Ok(())
+    holds(rt, life.nodes().hold_same(0, 1, SLOT));
+    holds(rt, life.nodes().hold_same(0, 2, SLOT));
+    same(rt, life.nodes().queued(1), Some(1));
 }
 
 /// Two ballots for epoch 1. That of node 0, with round 2: prepares 32 to 34, promises 35 and 36. Node 2 knows of no round and
@@ -139,21 +121,21 @@ fn contend(life: &mut Life, rt: &impl Abort) {
             Step::Deliver(40),
         ],
     );
-    check_prepares(life, rt, 37, SECOND, at(1, 2));
-    check_refused(life, rt, 40, 1, at(1, 2), at(2, 0));
+    check_prepares(rt, life.nodes(), 37, SECOND, at(1, 2));
+    check_refused(rt, life.nodes(), 40, 1, at(1, 2), at(2, 0));
     life.refuse_all(rt, &[(Step::Deliver(40), 21)]);
     life.endure_all(rt, &[Step::Propose(2, 1)]);
-    check_prepares(life, rt, 41, SECOND, at(3, 2));
+    check_prepares(rt, life.nodes(), 41, SECOND, at(3, 2));
     life.deliver(rt, 42, 46);
 }
 
 /// Node 0's accepts come too late: of 49 to 51 node 1 refuses one with packet 52. Node 0 begins with round 4: prepares 53 to
 /// 55. Node 2's accepts come before: votes of replica 1: 56 to 58, of replica 2: 59 to 61, and node 2 comes to hold Z. Node 0
 /// is told so by a vote: promises 62 and 63, accepts 64 to 66, votes of replica 0: 67 to 69, of replica 1: 70 to 72.
-fn give_way(life: &mut Life, rt: &impl Abort) -> Result<(), Fault> {
+fn give_way(life: &mut Life, rt: &impl Abort) {
     life.deliver(rt, 35, 37);
     life.endure_all(rt, &[Step::Deliver(50), Step::Deliver(52)]);
-    check_refused(life, rt, 52, 1, at(2, 0), at(3, 2));
+    check_refused(rt, life.nodes(), 52, 1, at(2, 0), at(3, 2));
     life.endure_all(
         rt,
         &[
@@ -164,13 +146,12 @@ fn give_way(life: &mut Life, rt: &impl Abort) -> Result<(), Fault> {
             Step::Deliver(61),
         ],
     );
-    check_prepares(life, rt, 53, SECOND, at(4, 0));
+    check_prepares(rt, life.nodes(), 53, SECOND, at(4, 0));
     life.deliver(rt, 53, 55);
     life.deliver(rt, 62, 66);
     life.endure_all(rt, &[Step::Deliver(67), Step::Deliver(70)]);
-    check_held(life, rt, SECOND, 0, 2)?;
-    same(rt, life.nodes().node(2)?.queued(), 0);
-    Ok(())
+    holds(rt, life.nodes().hold_same(0, 2, SECOND));
+    same(rt, life.nodes().queued(2), Some(0));
 }
 
 /// Node 2 runs both epochs, with the replies 73 and 74, and takes a snapshot.
@@ -207,40 +188,45 @@ fn come_back(life: &mut Life, rt: &impl Abort) {
             Step::Propose(2, 2),
         ],
     );
-    check_refused(life, rt, 75, 2, at(1, 2), at(3, 2));
+    check_refused(rt, life.nodes(), 75, 2, at(1, 2), at(3, 2));
     let told = life.nodes().packets().get(76).and_then(voted);
     same(rt, told, Some(at(3, 2)));
-    check_prepares(life, rt, 77, THIRD, at(4, 2));
+    check_prepares(rt, life.nodes(), 77, THIRD, at(4, 2));
     life.refuse_all(rt, &[(Step::Deliver(75), 21), (Step::Deliver(76), 21)]);
     same(rt, life.nodes().packets().len(), 80);
 }
 
 /// Node 2 stands at the end of epoch 1 with what was put.
-fn check_end(life: &Life, rt: &impl Abort) {
-    life.nodes().check_stands(rt, 2, Some(1), 2);
-    life.check_row(rt, 2, 1, 5);
-    life.check_row(rt, 2, 2, 7);
+fn check_end(rt: &impl Abort, nodes: &ScarceNodes) {
+    same(rt, nodes.stands(2), Some((Some(1), 2)));
+    same(rt, nodes.row(2, 1), Some(5));
+    same(rt, nodes.row(2, 2), Some(7));
 }
 
-/// The life, with memory for so many packets at each event.
-fn live(rt: &impl Abort, alloc: Global, room: usize) -> Result<Life, Fault> {
+/// What happens in the life.
+fn live_through(life: &mut Life, rt: &impl Abort) {
+    vote_for_x(life, rt);
+    vote_for_x_again(life, rt);
+    contend(life, rt);
+    give_way(life, rt);
+    run_both(life, rt);
+    check_end(rt, life.nodes());
+    come_back(life, rt);
+    check_end(rt, life.nodes());
+}
+
+/// The life, with memory for so many packets at each event. Says how often memory was refused.
+fn live(rt: &impl Abort, alloc: Global, room: usize) -> Result<usize, Fault> {
     let mut life = Life::open(alloc, Config::new(1, 3)?, room)?;
-    vote_for_x(&mut life, rt);
-    vote_for_x_again(&mut life, rt)?;
-    contend(&mut life, rt);
-    give_way(&mut life, rt)?;
-    run_both(&mut life, rt);
-    check_end(&life, rt);
-    come_back(&mut life, rt);
-    check_end(&life, rt);
-    Ok(life)
+    live_through(&mut life, rt);
+    Ok(life.end())
 }
 
 /// There is memory for no packet, and for the first of three.
 #[test]
 fn refused_once(rt: HostRuntime) -> Result<(), Fail> {
     for room in 0..2 {
-        let _life = live(&rt, rt.alloc(), room)?;
+        let _times = live(&rt, rt.alloc(), room)?;
     }
     Ok(())
 }
@@ -248,7 +234,7 @@ fn refused_once(rt: HostRuntime) -> Result<(), Fail> {
 #[test]
 fn nothing_refused(rt: HostRuntime) -> Result<(), Fail> {
     for room in 0..2 {
-        live(&rt, rt.alloc(), room)?.check_unrefused(&rt);
+        same(&rt, (room, live(&rt, rt.alloc(), room)?), (room, 0));
     }
     Ok(())
 }

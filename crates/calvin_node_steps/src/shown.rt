@@ -6,25 +6,26 @@ use calvin_types::{Ballot, Batch, Fault, Key, KeySet, NodeId, Place, RequestId, 
 use std::alloc::Global;
 
 /// What nodes that run numbers by key send.
-pub(crate) type Sent = Packet<KvRequest, u64, KvReply>;
+pub type Sent = Packet<KvRequest, u64, KvReply>;
 
 /// What is said by such a packet.
-pub(crate) type Said = Content<KvRequest, u64, KvReply>;
+type Said = Content<KvRequest, u64, KvReply>;
 
 /// A message of such nodes' synods.
-pub(crate) type Letter = Message<Batch<KvRequest>>;
+pub type Letter = Message<Batch<KvRequest>>;
 
 /// A key of table 0.
-pub(crate) fn key(id: u64) -> Key {
+pub fn key(id: u64) -> Key {
     Key { table: 0, id }
 }
 
-pub(crate) fn place(epoch: u64, n: u32) -> Place {
+/// The place of a request in an epoch.
+pub fn place(epoch: u64, n: u32) -> Place {
     Place { epoch, n }
 }
 
 /// A request of client 7, with the sets that it needs where no row is known.
-pub(crate) fn request(number: u32, args: KvRequest) -> Txn<KvRequest> {
+pub fn request(number: u32, args: KvRequest) -> Txn<KvRequest> {
     let mut sets = Sets {
         reads: KeySet::new(),
         writes: KeySet::new(),
