@@ -6,3 +6,14 @@ use std::process::Abort;
 pub(crate) fn same<T: PartialEq + Debug + Drop>(rt: &impl Abort, found: T, wanted: T) {
     assert_eq!(rt; found, wanted);
 }
+
+/// What was to be filled, where that went well.
+pub(crate) fn filled<T: Drop, E>(value: T, outcome: Result<(), E>) -> Result<T, E> {
+    match outcome {
+        Ok(()) => Ok(value),
+        Err(fault) => {
+            drop(value);
+            Err(fault)
+        }
+    }
+}

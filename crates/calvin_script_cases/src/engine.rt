@@ -16,6 +16,7 @@ fn prints_with(rt: &impl Abort, alloc: Global, sets: UndeclaredSets, script: &st
         (script, output.taken.as_slice() == text.as_bytes()),
         (script, true),
     );
+    drop(output);
 }
 
 /// Runs a script with the first sets of requests that declare none.

@@ -1,6 +1,6 @@
 //! Which operations of the application Stock are read in the usual way.
 use crate::checks::same;
-use calvin_script::Kept;
+use crate::forms::first_of;
 use calvin_stock::{Line, Order, StockRequest};
 use calvin_tokens::{Scratch, script_from, usual_script};
 use calvin_types::Fault;
@@ -14,24 +14,41 @@ fn with_operation(alloc: Global, operation: &str) -> Result<String, AllocError> 
     )
 }
 
-/// What is read of an operation, in the usual way.
-fn usual_operation(alloc: Global, operation: &str) -> Result<Option<StockRequest>, AllocError> {
+/// What is read of the first request's operation, in the usual way.
+fn usual_first(alloc: Global, text: &str) -> Option<StockRequest> {
+    let mut scratch = Scratch::new(alloc);
+    let script = usual_script::<StockRequest>(alloc, text.as_bytes(), &mut scratch);
+    drop(scratch);
+    let script = script?;
+    let first = match first_of(&script) {
+        Some(request) => Some(request.txn().args),
+        None => None,
+    };
+    drop(script);
+    first
+}
+
+/// What a script is refused with, if it is.
+fn fault_of(alloc: Global, text: &str) -> Option<Fault> {
+    match script_from::<StockRequest>(alloc, text.as_bytes()) {
+        Ok(script) => {
+            drop(script);
+            None
+        }
+        Err(fault) => Some(fault),
+    }
+}
+
+/// What is read of an operation in the usual way, and what it is refused with, if it is.
+fn both_ways(
+    alloc: Global,
+    operation: &str,
+) -> Result<(Option<StockRequest>, Option<Fault>), AllocError> {
     let text = with_operation(alloc, operation)?;
-    let Some(script) = usual_script::<StockRequest>(
-        alloc,
-        text.as_bytes(),
-        &mut Scratch::new(alloc),
-    ) else {
-        return Ok(None);
-    };
-    let requests: &[Kept<StockRequest>] = match script.epochs.get(0) {
-        Some(epoch) => match epoch.batches.get(0) {
-            Some(batch) => &batch.requests,
-            None => &[],
-        },
-        None => &[],
-    };
-    Ok(requests.get(0).map(|request| request.txn().args))
+    let usual = usual_first(alloc, text.as_str());
+    let fault = fault_of(alloc, text.as_str());
+    drop(text);
+    Ok((usual, fault))
 }
 
 #[test]
@@ -53,7 +70,7 @@ fn each_operation(rt: HostRuntime) -> Result<(), Fail> {
     ];
     let order = Order::new(501, 9001, &lines)?;
     let shortest = Order::new(0, 1, &lines[..1])?;
-    for (operation, wanted) in [
+    for &(operation, wanted) in &[
         (
             r#"["additem",1,2,3]"#,
             StockRequest::AddItem {
@@ -90,43 +107,46 @@ fn each_operation(rt: HostRuntime) -> Result<(), Fail> {
             StockRequest::Order(shortest),
         ),
     ] {
-        let found = usual_operation(rt.alloc(), operation)?;
-        same(&rt, (operation, found), (operation, Some(wanted)));
+        let found = both_ways(rt.alloc(), operation)?;
+        same(&rt, (operation, found), (operation, (Some(wanted), None)));
     }
     Ok(())
 }
 
 /// What is no operation, either way: an order of no line or of five, an item that comes twice, no piece or too many, a
 /// number too many or too few.
+const NO_OPERATIONS: [&str; 20] = [
+    r#"["order",1,2,[]]"#,
+    r#"["order",1,2,[[1,1],[2,1],[3,1],[4,1],[5,1]]]"#,
+    r#"["order",1,2,[[1,1],[2,1],[1,3]]]"#,
+    r#"["order",1,2,[[1,0]]]"#,
+    r#"["order",1,2,[[1,1000000001]]]"#,
+    r#"["order",1,2,[[1,4294967296]]]"#,
+    r#"["order",1,2,[[1,1,1]]]"#,
+    r#"["order",1,2,[[1]]]"#,
+    r#"["order",1,2,[[1,1]],3]"#,
+    r#"["order",1,[[1,1]]]"#,
+    r#"["order",1,2,{}]"#,
+    r#"["additem",1,2]"#,
+    r#"["restock",1,2,3]"#,
+    r#"["open"]"#,
+    r#"["open",1,2]"#,
+    r#"["payin",1,-2]"#,
+    r#"["settle",18446744073709551616]"#,
+    r#"["balance","1"]"#,
+    r#"["put",1,2]"#,
+    r#"[]"#,
+];
+
 #[test]
 fn no_operations(rt: HostRuntime) -> Result<(), Fail> {
-    for operation in [
-        r#"["order",1,2,[]]"#,
-        r#"["order",1,2,[[1,1],[2,1],[3,1],[4,1],[5,1]]]"#,
-        r#"["order",1,2,[[1,1],[2,1],[1,3]]]"#,
-        r#"["order",1,2,[[1,0]]]"#,
-        r#"["order",1,2,[[1,1000000001]]]"#,
-        r#"["order",1,2,[[1,4294967296]]]"#,
-        r#"["order",1,2,[[1,1,1]]]"#,
-        r#"["order",1,2,[[1]]]"#,
-        r#"["order",1,2,[[1,1]],3]"#,
-        r#"["order",1,[[1,1]]]"#,
-        r#"["order",1,2,{}]"#,
-        r#"["additem",1,2]"#,
-        r#"["restock",1,2,3]"#,
-        r#"["open"]"#,
-        r#"["open",1,2]"#,
-        r#"["payin",1,-2]"#,
-        r#"["settle",18446744073709551616]"#,
-        r#"["balance","1"]"#,
-        r#"["put",1,2]"#,
-        r#"[]"#,
-    ] {
-        let usual = usual_operation(rt.alloc(), operation)?;
-        same(&rt, (operation, usual), (operation, None));
-        let text = with_operation(rt.alloc(), operation)?;
-        let fault = script_from::<StockRequest>(rt.alloc(), text.as_bytes()).err();
-        same(&rt, (operation, fault), (operation, Some(Fault::BadScript)));
+    for &operation in &NO_OPERATIONS {
+        let found = both_ways(rt.alloc(), operation)?;
+        same(
+            &rt,
+            (operation, found),
+            (operation, (None, Some(Fault::BadScript))),
+        );
     }
     Ok(())
 }

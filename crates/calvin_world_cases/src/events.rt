@@ -178,15 +178,26 @@ const NO_SCRIPTS: [&str; 10] = [
     r#""partitions":1,"replicas":1,"events":[],"app":"stock""#,
 ];
 
+/// What a script is refused with, if it is.
+fn fault_of(read: Read) -> Option<Fault> {
+    match read {
+        Ok(script) => {
+            drop(script);
+            None
+        }
+        Err(fault) => Some(fault),
+    }
+}
+
 #[test]
 fn what_is_refused(rt: HostRuntime) -> Result<(), Fail> {
     let alloc = rt.alloc();
-    for event in NO_EVENTS {
-        let fault = with_events(alloc, event)?.err();
+    for &event in &NO_EVENTS {
+        let fault = fault_of(with_events(alloc, event)?);
         same(&rt, (event, fault), (event, Some(Fault::BadScript)));
     }
-    for members in NO_SCRIPTS {
-        let fault = with_members(alloc, members)?.err();
+    for &members in &NO_SCRIPTS {
+        let fault = fault_of(with_members(alloc, members)?);
         same(&rt, (members, fault), (members, Some(Fault::BadScript)));
     }
     Ok(())

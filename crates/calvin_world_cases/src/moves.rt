@@ -48,6 +48,7 @@ fn world_of(
         (script, output.taken.as_slice() == text.as_bytes()),
         (script, true),
     );
+    drop(output);
     world
 }
 
@@ -89,33 +90,19 @@ fn served(world: &KvWorld, id: NodeId, place: Place) -> bool {
     false
 }
 
-#[test]
-fn move_across_partitions(rt: HostRuntime) {
-    let world = world_of(&rt, rt.alloc(), 1, Restarts::Never, MOVE, MOVED);
-    ends_with(&rt, &world, Some(6), Some(4));
-}
-
-#[test]
-fn move_short(rt: HostRuntime) {
-    let script =
-        r#"{"partitions":2,"app":"kv","epochs":[[{"group":0,"txns":[{"client":7,"number":1,"op":["put",1,10]},{"client":7,"number":2,"op":["move",1,2,11]}]}]]}"#;
-    let text = "0.0 7:1 done\n0.1 7:2 short\nfinished 0\n";
-    let world = world_of(&rt, rt.alloc(), 1, Restarts::Never, script, text);
-    ends_with(&rt, &world, Some(10), None);
+/// The move was short: both rows are as they were, and every node replied.
+fn is_short(rt: &impl Abort, world: &KvWorld) {
+    ends_with(rt, world, Some(10), None);
     for replica in 0..REPLICAS {
         for partition in 0..2 {
-            holds(&rt, replied(&world, NodeId { replica, partition }, SECOND));
+            holds(rt, replied(world, NodeId { replica, partition }, SECOND));
         }
     }
 }
 
-#[test]
-fn passive_partition(rt: HostRuntime) {
-    let script =
-        r#"{"partitions":2,"app":"kv","epochs":[[{"group":0,"txns":[{"client":7,"number":1,"op":["get",[2,3]]}]}]]}"#;
+/// In every replica the first partition replied, and the second one sent only the rows that it read.
+fn is_passive(rt: &impl Abort, world: &KvWorld) {
     let first = Place { epoch: 0, n: 0 };
-    let text = "0.0 7:1 none none\nfinished 0\n";
-    let world = world_of(&rt, rt.alloc(), 1, Restarts::Never, script, text);
     for replica in 0..REPLICAS {
         let (active, passive) = (
             NodeId {
@@ -128,27 +115,71 @@ fn passive_partition(rt: HostRuntime) {
             },
         );
         holds(
-            &rt,
-            replied(&world, active, first) && !served(&world, active, first),
+            rt,
+            replied(world, active, first) && !served(world, active, first),
         );
         holds(
-            &rt,
-            served(&world, passive, first) && !replied(&world, passive, first),
+            rt,
+            served(world, passive, first) && !replied(world, passive, first),
         );
     }
+}
+
+/// How a world ends.
+#[derive(Clone, Copy)]
+enum End {
+    Moved,
+    Short,
+    Passive,
+}
+
+/// A script is run in a world, whose text is this one, and which ends so: a schedule from a start number, of 1,000
+/// events.
+fn check(
+    rt: &impl Abort,
+    alloc: Global,
+    start: u64,
+    restarts: Restarts,
+    script: &str,
+    text: &str,
+    end: End,
+) {
+    let world = world_of(rt, alloc, start, restarts, script, text);
+    match end {
+        End::Moved => ends_with(rt, &world, Some(6), Some(4)),
+        End::Short => is_short(rt, &world),
+        End::Passive => is_passive(rt, &world),
+    }
+}
+
+#[test]
+fn move_across_partitions(rt: HostRuntime) {
+    let restarts = Restarts::Never;
+    check(&rt, rt.alloc(), 1, restarts, MOVE, MOVED, End::Moved);
+}
+
+#[test]
+fn move_short(rt: HostRuntime) {
+    let script =
+        r#"{"partitions":2,"app":"kv","epochs":[[{"group":0,"txns":[{"client":7,"number":1,"op":["put",1,10]},{"client":7,"number":2,"op":["move",1,2,11]}]}]]}"#;
+    let text = "0.0 7:1 done\n0.1 7:2 short\nfinished 0\n";
+    let restarts = Restarts::Never;
+    check(&rt, rt.alloc(), 1, restarts, script, text, End::Short);
+}
+
+#[test]
+fn passive_partition(rt: HostRuntime) {
+    let script =
+        r#"{"partitions":2,"app":"kv","epochs":[[{"group":0,"txns":[{"client":7,"number":1,"op":["get",[2,3]]}]}]]}"#;
+    let text = "0.0 7:1 none none\nfinished 0\n";
+    let restarts = Restarts::Never;
+    check(&rt, rt.alloc(), 1, restarts, script, text, End::Passive);
 }
 
 #[test]
 fn sim_with_restarts(rt: HostRuntime) {
     for start in 1..51 {
-        let world = world_of(
-            &rt,
-            rt.alloc(),
-            start,
-            Restarts::AboveReplicaZero,
-            MOVE,
-            MOVED,
-        );
-        ends_with(&rt, &world, Some(6), Some(4));
+        let restarts = Restarts::AboveReplicaZero;
+        check(&rt, rt.alloc(), start, restarts, MOVE, MOVED, End::Moved);
     }
 }

@@ -1,5 +1,5 @@
 //! One node alone, and what is told of it.
-use crate::checks::same;
+use crate::checks::{filled, same};
 use calvin_app::{Kv, KvRequest};
 use calvin_lock::{ListLocks, Locks, QueueLocks};
 use calvin_node::Act;
@@ -7,7 +7,7 @@ use calvin_report::{Epochs, finished, push_nodes, push_outcomes, push_replies, r
 use calvin_store::PlainRows;
 use calvin_text::push_last;
 use calvin_types::{Config, Fault, KeySet, NodeId, Place, RequestId, Sets, Txn};
-use calvin_world::{Event, World};
+use calvin_world::{Event, Outcome, World};
 use std::alloc::Global;
 use std::process::Abort;
 use std::test::Fail;
@@ -38,7 +38,39 @@ fn own(act: Act<KvRequest>) -> Event<KvRequest> {
     Event::At(NODE, act)
 }
 
-/// What is told of one node after these events: each event, the node, the replies, and the last epoch.
+/// Adds what is told of one node: what came of each event, the node, the replies, and the last epoch.
+fn push_told<L: Locks + Drop>(
+    text: &mut Vec<u8>,
+    alloc: Global,
+    world: &World<Kv, L, PlainRows<u64>>,
+    outcomes: &[Outcome],
+    epochs: Epochs,
+) -> Result<(), Fault> {
+    push_outcomes(text, outcomes)?;
+    push_nodes(text, world)?;
+    let replies = replies_of(alloc, world.packets())?;
+    let pushed = push_replies(text, &replies, epochs);
+    drop(replies);
+    pushed?;
+    push_last(text, finished(world))?;
+    Ok(())
+}
+
+/// What is told of one node after these events.
+fn told_of<L: Locks + Drop>(
+    alloc: Global,
+    world: &mut World<Kv, L, PlainRows<u64>>,
+    events: &[Event<KvRequest>],
+    epochs: Epochs,
+) -> Result<Vec<u8>, Fault> {
+    let outcomes = world.run(events)?;
+    let mut text = Vec::new(alloc);
+    let pushed = push_told(&mut text, alloc, world, &outcomes, epochs);
+    drop(outcomes);
+    filled(text, pushed)
+}
+
+/// What is told of one node after these events, in a world of its own.
 fn told<L: Locks + Drop>(
     alloc: Global,
     events: &[Event<KvRequest>],
@@ -46,14 +78,7 @@ fn told<L: Locks + Drop>(
 ) -> Result<Vec<u8>, Fault> {
     let config = Config::new(1, 1)?;
     let mut world: World<Kv, L, PlainRows<u64>> = World::new(alloc, &config, Kv)?;
-    let outcomes = world.run(events)?;
-    let mut text = Vec::new(alloc);
-    push_outcomes(&mut text, &outcomes)?;
-    push_nodes(&mut text, &world)?;
-    let replies = replies_of(alloc, world.packets())?;
-    push_replies(&mut text, &replies, epochs)?;
-    push_last(&mut text, finished(&world))?;
-    Ok(text)
+    told_of(alloc, &mut world, events, epochs)
 }
 
 /// What is told is this text.
@@ -66,6 +91,7 @@ fn check<L: Locks + Drop>(
 ) -> Result<(), Fault> {
     let found = told::<L>(alloc, events, epochs)?;
     same(rt, found.as_slice(), text.as_bytes());
+    drop(found);
     Ok(())
 }
 
