@@ -71,16 +71,14 @@ fn gives(rt: &impl Abort, merge: &mut Merge<u32>, epoch: u64, numbers: &[u32]) {
     same(rt, merge.next(), Some(epoch));
     match merge.take_epoch() {
         Ok(taken) => check_taken(rt, &taken, epoch, numbers),
-        Err(fault) => same(rt, (epoch, fault.number()), (epoch, 0)),
+        Err(fault) => same(rt, Err(fault), Ok(epoch)),
     }
 }
 
 /// The next epoch can't be taken, since a batch is missing.
 fn lacks(rt: &impl Abort, merge: &mut Merge<u32>) {
-    match merge.take_epoch() {
-        Ok(taken) => same(rt, (taken.len(), 0), (0, 34)),
-        Err(fault) => same(rt, fault.number(), 34),
-    }
+    let taken = merge.take_epoch().map(|taken| taken.len());
+    same(rt, taken, Err(Fault::NotComplete));
 }
 
 #[test]
@@ -283,9 +281,9 @@ fn take_refused_once(rt: &impl Abort, merge: &mut Merge<u32>, numbers: &[u32]) {
 fn refused_once(rt: HostRuntime) -> Result<(), Fail> {
     let alloc = rt.alloc();
     let numbers = [1, 2, 3];
-    let batch = batch(alloc, &numbers).or_else(|_fault| batch(alloc, &numbers))?;
+    let whole = batch(alloc, &numbers).or_else(|_fault| batch(alloc, &numbers))?;
     let mut merge = merge_of(alloc, 1)?;
-    let held = hold_refused_once(&rt, &mut merge, batch);
+    let held = hold_refused_once(&rt, &mut merge, whole);
     if held.is_ok() {
         take_refused_once(&rt, &mut merge, &numbers);
     }

@@ -244,24 +244,22 @@ fn close_three(
     submit(alloc, sequencer, 4)
 }
 
-/// Requests 1, 2 and 3 are closed for epoch 0, 4 is queued, and these are decided for an epoch. The epoch that is closed next
-/// is told, which has these numbers.
+/// Requests 1, 2 and 3 are closed for epoch 0, 4 is queued, and these are decided for an epoch: then the epoch `next` is closed
+/// with these numbers.
 fn leaves(
     rt: &impl Abort,
     alloc: Global,
     sequencer: &mut Sequencer<u64>,
-    epoch: u64,
-    decided: &[(u32, u8)],
+    (epoch, decided): (u64, &[(u32, u8)]),
+    next: u64,
     numbers: &[u32],
-) -> Result<u64, Fault> {
+) -> Result<(), Fault> {
     close_three(rt, alloc, sequencer)?;
     decide(rt, alloc, sequencer, epoch, decided)?;
     decide(rt, alloc, sequencer, epoch, &[])?;
     same(rt, sequencer.queued(), numbers.len());
     has_closed(rt, sequencer, 0, &[1, 2, 3]);
-    let next = sequencer.close()?;
-    has_closed(rt, sequencer, next, numbers);
-    Ok(next)
+    closes(rt, sequencer, next, numbers)
 }
 
 #[test]
@@ -277,9 +275,16 @@ fn leftover_requests(rt: HostRuntime) -> Result<(), Fail> {
     ];
     for (epoch, decided, next, numbers) in cases {
         let mut sequencer = Sequencer::new(rt.alloc(), 0);
-        let found = leaves(&rt, rt.alloc(), &mut sequencer, epoch, decided, numbers);
+        let left = leaves(
+            &rt,
+            rt.alloc(),
+            &mut sequencer,
+            (epoch, decided),
+            next,
+            numbers,
+        );
         drop(sequencer);
-        same(&rt, (epoch, found), (epoch, Ok(next)));
+        left?;
     }
     Ok(())
 }

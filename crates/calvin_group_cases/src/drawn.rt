@@ -155,7 +155,7 @@ fn letters_are(packets: &[Packet<Batch<u64>>], letters: &[Letter]) -> bool {
 fn check_events(
     rt: &impl Abort,
     alloc: Global,
-    size: u8,
+    (size, start): (u8, u64),
     plain: &PlainGroup,
     events: &[GroupEvent<Batch<u64>>],
     ends: &[End],
@@ -164,8 +164,8 @@ fn check_events(
     let are_ends = group.run(events).map(|outcomes| ends_are(&outcomes, ends));
     let are_letters = letters_are(group.packets(), plain.letters.as_slice());
     drop(group);
-    same(rt, (size, are_ends), (size, Ok(true)));
-    same(rt, (size, are_letters), (size, true));
+    same(rt, (size, start, are_ends), (size, start, Ok(true)));
+    same(rt, (size, start, are_letters), (size, start, true));
     Ok(())
 }
 
@@ -174,14 +174,14 @@ fn compare(rt: &impl Abort, alloc: Global, size: u8, start: u64) -> Result<usize
     let mut plain = PlainGroup::new(alloc, size)?;
     let mut events = Vec::new(alloc);
     let mut ends = Vec::new(alloc);
-    let drawn = draw_all(alloc, size, start, &mut plain, &mut events, &mut ends);
-    let compared = check_events(rt, alloc, size, &plain, &events, &ends);
-    let given = are_agreed(rt, ends.as_slice());
+    let mut outcome = draw_all(alloc, size, start, &mut plain, &mut events, &mut ends);
+    if outcome.is_ok() {
+        outcome = check_events(rt, alloc, (size, start), &plain, &events, &ends);
+    }
     drop(plain);
     drop(events);
-    drawn?;
-    compared?;
-    Ok(given)
+    outcome?;
+    Ok(are_agreed(rt, ends.as_slice()))
 }
 
 #[test]

@@ -180,7 +180,7 @@ fn up_to_the_vote(rt: &impl Abort, alloc: Global, group: &mut Group<u64>) -> Res
     Ok(())
 }
 
-/// Then replica 1 begins the ballot (1, 1) with batch 8, and replicas 0 and 2 promise it.
+/// Then replica 1 begins the ballot (1, 1) with batch 8, and replicas 0 and 1 promise it.
 fn up_to_the_promises(rt: &impl Abort, alloc: Global, group: &mut Group<u64>) -> Result<(), Fault> {
     up_to_the_vote(rt, alloc, group)?;
     propose(rt, group, 1, batch_of(alloc, 8)?)?;

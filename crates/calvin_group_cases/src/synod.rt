@@ -323,12 +323,12 @@ fn opened_from_a_record(rt: HostRuntime) -> Result<(), Fail> {
     let ballot = at(1, 2);
     let mut member = Member::new(rt.alloc(), &config, 2);
     let begun = begin(rt.alloc(), &mut member, ballot);
+    same(&rt, begun, Ok(()));
     same(&rt, told(member.completes(0, SLOT, ballot)), Err(22));
     same(&rt, told(member.completes(1, SLOT, ballot)), Ok(true));
     let mut opened = Member::from_record(rt.alloc(), &config, 2, member.into_record());
     check_opened(&rt, &mut opened, ballot);
     drop(opened);
-    begun?;
     Ok(())
 }
 

@@ -82,8 +82,8 @@ fn new_ballot_keeps_the_vote(rt: HostRuntime) -> Result<(), Fail> {
     Ok(())
 }
 
-/// The accepts and prepares of older ballots come to node 1. What is recorded shows in what is sent: the promise in a refusal,
-/// and a vote in the next promise.
+/// The accept of an older ballot comes to node 1, twice, and then the prepare of a newer one. What is recorded shows in what is
+/// sent: the promise in the refusals, and in the next promise that there was no vote.
 fn older_ballots(
     rt: &impl Abort,
     alloc: Global,

@@ -8,7 +8,7 @@ use calvin_types::{Place, Slot};
 /// The numbers of the keys that the lives of nodes use.
 const KEYS: [u64; 2] = [1, 2];
 
-/// More epochs than they have, and groups.
+/// As many epochs as they have, and groups.
 const EPOCHS: u64 = 3;
 
 const GROUPS: u8 = 2;
@@ -23,7 +23,7 @@ pub(crate) fn have_sent_same(some: &[Sent], others: &[Sent]) -> bool {
 }
 
 /// Whether two nodes hold the same batches for an epoch.
-fn hold_same<L: Locks + Drop, S: Rows<u64> + Drop>(
+fn hold_same_batches<L: Locks + Drop, S: Rows<u64> + Drop>(
     one: &Numbers<L, S>,
     other: &Numbers<L, S>,
     epoch: u64,
@@ -70,7 +70,7 @@ pub(crate) fn tell_same<L: Locks + Drop, S: Rows<u64> + Drop>(
     other: &Numbers<L, S>,
 ) -> bool {
     for epoch in 0..EPOCHS {
-        if !hold_same(one, other, epoch) || !have_same_due(one, other, place(epoch, 0)) {
+        if !hold_same_batches(one, other, epoch) || !have_same_due(one, other, place(epoch, 0)) {
             return false;
         }
     }

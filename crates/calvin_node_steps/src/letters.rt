@@ -1,4 +1,4 @@
-//! The messages of a group's synods about epoch 0. There is one partition, so a node's number is its replica.
+//! The messages of a group's synods, and those about epoch 0. There is one partition, so a node's number is its replica.
 use crate::shown::{Letter, Sent, batch_of, request};
 use calvin_app::KvRequest;
 use calvin_packets::{Address, Content};

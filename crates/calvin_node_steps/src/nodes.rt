@@ -8,7 +8,7 @@ use calvin_lock::Locks;
 use calvin_node::{Act, Durable, Node};
 use calvin_packets::Outbox;
 use calvin_store::{PlainRows, Rows};
-use calvin_types::{Config, Fault, NodeId, Place, Slot};
+use calvin_types::{Config, Fault, NodeId, Slot};
 use std::alloc::Global;
 
 /// More packets than any case sends.
@@ -140,6 +140,7 @@ impl<L: Locks + Drop, S: Rows<u64> + Drop> Nodes<L, S> {
         match self.open(id, node.into_durable()) {
             Ok(()) => Ok(()),
             Err((fault, record)) => {
+                // Where this is refused too, a node is missing, which whoever compares the nodes sees.
                 drop(self.open(id, record));
                 Err(fault)
             }
@@ -163,7 +164,8 @@ impl<L: Locks + Drop, S: Rows<u64> + Drop> Nodes<L, S> {
         Ok(())
     }
 
-    /// Whether the same packets were sent as by others, and each node tells the same as the other of its number.
+    /// Whether the same packets were sent as by others, and each node tells the same as the other of its number: of what lives
+    /// of nodes use, the epochs 0 to 2, the groups 0 and 1, the first place of each epoch, and the keys 1 and 2.
     pub fn is_alike(&self, others: &Nodes<L, S>) -> bool {
         self.nodes.len() == others.nodes.len()
             && have_sent_same(self.packets(), others.packets())
@@ -282,7 +284,7 @@ impl<L: Locks + Drop, S: Rows<u64> + Drop> Nodes<L, S> {
         }
     }
 
-    /// Whether the packet of a number is this message, from one replica to another.
+    /// Whether the packet of a number is this message, from one replica to another, where there is one partition.
     pub fn has_told(&self, number: usize, from: u8, to: u8, letter: &Letter) -> bool {
         match self.packets().get(number) {
             Some(packet) => is_letter(packet, from, to, letter),
@@ -290,7 +292,8 @@ impl<L: Locks + Drop, S: Rows<u64> + Drop> Nodes<L, S> {
         }
     }
 
-    /// Whether a replica has sent this message to each of three, with the packets from a number on.
+    /// Whether a replica has sent this message to each of three, with the packets from a number on, where there is one
+    /// partition.
     pub fn has_told_all(&self, first: usize, from: u8, letter: &Letter) -> bool {
         for to in 0..3 {
             if !self.has_told(first.saturating_add(usize::from(to)), from, to, letter) {

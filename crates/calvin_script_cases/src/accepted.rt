@@ -7,6 +7,9 @@ use std::alloc::{AllocError, Global};
 use std::process::Abort;
 use std::test::Fail;
 
+/// The refusal of what is no script.
+pub(crate) const BAD: Option<Fault> = Some(Fault::BadScript);
+
 /// What the bytes are refused with, if they are.
 fn fault_of(alloc: Global, bytes: &[u8]) -> Option<Fault> {
     match script_from::<KvRequest>(alloc, bytes) {
@@ -24,9 +27,6 @@ fn fault_of_script(alloc: Global, script: String) -> Option<Fault> {
     drop(script);
     fault
 }
-
-/// The refusal of what is no script.
-pub(crate) const BAD: Option<Fault> = Some(Fault::BadScript);
 
 /// A script of two partitions with these batches in its one epoch.
 pub(crate) fn with_batches(alloc: Global, batches: &str) -> Result<String, AllocError> {

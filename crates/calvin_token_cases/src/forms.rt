@@ -58,7 +58,7 @@ fn scripts_of_any_order(rt: HostRuntime) {
 }
 
 /// A script of this request is read, in the usual way or not.
-fn is_read(
+fn check_read(
     rt: &impl Abort,
     alloc: Global,
     request: &str,
@@ -86,7 +86,7 @@ const ANY_REQUESTS: [&str; 7] = [
 #[test]
 fn requests_of_any_order(rt: HostRuntime) -> Result<(), Fail> {
     for &request in &ANY_REQUESTS {
-        is_read(&rt, rt.alloc(), request, true)?;
+        check_read(&rt, rt.alloc(), request, true)?;
     }
     Ok(())
 }
@@ -102,13 +102,13 @@ const UNUSUAL_REQUESTS: [&str; 3] = [
 #[test]
 fn unusual_requests(rt: HostRuntime) -> Result<(), Fail> {
     for &request in &UNUSUAL_REQUESTS {
-        is_read(&rt, rt.alloc(), request, false)?;
+        check_read(&rt, rt.alloc(), request, false)?;
     }
     Ok(())
 }
 
 /// A text is refused in both ways, and with what.
-fn is_refused(rt: &impl Abort, alloc: Global, text: &str, want: Fault) {
+fn check_refused(rt: &impl Abort, alloc: Global, text: &str, want: Fault) {
     same(rt, (text, is_usual(alloc, text)), (text, false));
     let fault = epochs_of(alloc, text).err();
     same(rt, (text, fault), (text, Some(want)));
@@ -152,7 +152,7 @@ const REFUSED: [(&str, Fault); 10] = [
 #[test]
 fn refused_scripts(rt: HostRuntime) {
     for &(text, want) in &REFUSED {
-        is_refused(&rt, rt.alloc(), text, want);
+        check_refused(&rt, rt.alloc(), text, want);
     }
 }
 
@@ -162,7 +162,7 @@ pub fn first_of<Op: Operation>(script: &Script<Kept<Op>>) -> Option<&Kept<Op>> {
 }
 
 /// A request is the add below.
-fn is_add(rt: &impl Abort, request: &Kept<KvRequest>) {
+fn check_add(rt: &impl Abort, request: &Kept<KvRequest>) {
     let txn = request.txn();
     holds(rt, request.is_declared() && txn.attempt == 3);
     holds(rt, txn.id.client == 7 && txn.id.number == 2);
@@ -181,7 +181,7 @@ fn a_request_as_it_is_written(rt: HostRuntime) -> Result<(), Fail> {
     drop(text);
     let script = script?;
     match first_of(&script) {
-        Some(request) => is_add(&rt, request),
+        Some(request) => check_add(&rt, request),
         None => holds(&rt, false),
     }
     drop(script);

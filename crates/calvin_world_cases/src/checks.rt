@@ -1,4 +1,4 @@
-//! How a test compares.
+//! How a test compares, and hands on what it fills.
 use std::fmt::Debug;
 use std::process::Abort;
 
@@ -12,7 +12,7 @@ pub(crate) fn same<T: PartialEq + Debug + Drop>(rt: &impl Abort, found: T, wante
     assert_eq!(rt; found, wanted);
 }
 
-/// What was to be filled, where that went well.
+/// What was to be filled, where that went well. A value that goes out of scope beside `?` is dearer to prove.
 pub(crate) fn filled<T: Drop, E>(value: T, outcome: Result<(), E>) -> Result<T, E> {
     match outcome {
         Ok(()) => Ok(value),

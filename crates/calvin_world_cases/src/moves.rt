@@ -91,7 +91,7 @@ fn served(world: &KvWorld, id: NodeId, place: Place) -> bool {
 }
 
 /// The move was short: both rows are as they were, and every node replied.
-fn is_short(rt: &impl Abort, world: &KvWorld) {
+fn check_short(rt: &impl Abort, world: &KvWorld) {
     ends_with(rt, world, Some(10), None);
     for replica in 0..REPLICAS {
         for partition in 0..2 {
@@ -101,7 +101,7 @@ fn is_short(rt: &impl Abort, world: &KvWorld) {
 }
 
 /// In every replica the first partition replied, and the second one sent only the rows that it read.
-fn is_passive(rt: &impl Abort, world: &KvWorld) {
+fn check_passive(rt: &impl Abort, world: &KvWorld) {
     let first = Place { epoch: 0, n: 0 };
     for replica in 0..REPLICAS {
         let (active, passive) = (
@@ -133,8 +133,8 @@ enum End {
     Passive,
 }
 
-/// A script is run in a world, whose text is this one, and which ends so: a schedule from a start number, of 1,000
-/// events.
+/// A script is run in a world, under a schedule of 1,000 events from a start number: the text is this one, and the world ends
+/// so.
 fn check(
     rt: &impl Abort,
     alloc: Global,
@@ -147,8 +147,8 @@ fn check(
     let world = world_of(rt, alloc, start, restarts, script, text);
     match end {
         End::Moved => ends_with(rt, &world, Some(6), Some(4)),
-        End::Short => is_short(rt, &world),
-        End::Passive => is_passive(rt, &world),
+        End::Short => check_short(rt, &world),
+        End::Passive => check_passive(rt, &world),
     }
 }
 
