@@ -160,13 +160,8 @@ fn check_held(
     nodes: &Nodes<ListLocks>,
     number: usize,
 ) -> Result<(), Fault> {
-    holds(rt, nodes.node(number)?.held(SLOT) == Some(&batch_x(alloc)?));
-    Ok(())
-}
-
-/// No batch is held by a node.
-fn check_none(rt: &impl Abort, nodes: &Nodes<ListLocks>, number: usize) -> Result<(), Fault> {
-    holds(rt, nodes.node(number)?.held(SLOT).is_none());
+    let batch = batch_x(alloc)?;
+    holds(rt, nodes.holds(number, SLOT, Some(&batch)));
     Ok(())
 }
 
@@ -185,18 +180,19 @@ fn propose_x(rt: &impl Abort, nodes: &mut Nodes<ListLocks>, last: usize) {
 /// Of two: prepares 0 and 1, promises 2 and 3, accepts 4 and 5, votes of replica 0: 6 and 7, of replica 1: 8 and 9.
 fn of_two(rt: &impl Abort, alloc: Global, nodes: &mut Nodes<ListLocks>) -> Result<(), Fault> {
     propose_x(rt, nodes, 7);
-    check_none(rt, nodes, 0)?;
+    holds(rt, nodes.holds(0, SLOT, None));
     refuse(rt, nodes, Step::Deliver(6), 22);
     run(rt, nodes, &[Step::Deliver(8)]);
     check_held(rt, alloc, nodes, 0)?;
     refuse(rt, nodes, Step::Deliver(8), 22);
-    check_none(rt, nodes, 1)
+    holds(rt, nodes.holds(1, SLOT, None));
+    Ok(())
 }
 
 /// Of one: prepare 0, promise 1, accept 2, vote 3.
 fn of_one(rt: &impl Abort, alloc: Global, nodes: &mut Nodes<ListLocks>) -> Result<(), Fault> {
     propose_x(rt, nodes, 3);
-    check_none(rt, nodes, 0)?;
+    holds(rt, nodes.holds(0, SLOT, None));
     run(rt, nodes, &[Step::Deliver(3)]);
     check_held(rt, alloc, nodes, 0)?;
     same(rt, nodes.packets().len(), 4);

@@ -9,6 +9,6 @@ mod shown;
 mod step;
 
 pub use letters::{SLOT, X, accept, accepted, at, batch_x, prepare, promise, refused};
-pub use nodes::{Nodes, Numbers};
+pub use nodes::Nodes;
 pub use shown::{Letter, Sent, key, place, request};
 pub use step::{Step, number_of};

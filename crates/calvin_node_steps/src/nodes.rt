@@ -8,14 +8,14 @@ use calvin_lock::Locks;
 use calvin_node::{Act, Durable, Node};
 use calvin_packets::Outbox;
 use calvin_store::{PlainRows, Rows};
-use calvin_types::{Config, Fault, NodeId, Slot};
+use calvin_types::{Batch, Config, Fault, NodeId, Slot};
 use std::alloc::Global;
 
 /// More packets than any case sends.
 const MOST_PACKETS: usize = 1000;
 
 /// A node that runs numbers by key.
-pub type Numbers<L, S = PlainRows<u64>> = Node<Kv, L, S>;
+pub(crate) type Numbers<L, S = PlainRows<u64>> = Node<Kv, L, S>;
 
 /// All nodes, numbered from 0 replica by replica, and all packets that they sent, numbered from 0.
 #[derive(Drop)]
@@ -64,11 +64,6 @@ impl<L: Locks + Drop, S: Rows<u64> + Drop> Nodes<L, S> {
     /// The nodes end, and what they took of memory is given back. A test that lets them go out of scope is longer to prove, by
     /// what it takes to give each of their parts back.
     pub fn end(self) {}
-
-    /// The node of a number, to be asked.
-    pub fn node(&self, number: usize) -> Result<&Numbers<L, S>, Fault> {
-        self.nodes.get(number).ok_or(Fault::NoNode)
-    }
 
     /// All packets.
     pub fn packets(&self) -> &[Sent] {
@@ -264,6 +259,14 @@ impl<L: Locks + Drop, S: Rows<u64> + Drop> Nodes<L, S> {
     /// How many requests are queued at a node.
     pub fn queued(&self, number: usize) -> Option<usize> {
         Some(self.nodes.get(number)?.queued())
+    }
+
+    /// Whether a node holds this batch for a slot; or none, where none is given.
+    pub fn holds(&self, number: usize, slot: Slot, batch: Option<&Batch<KvRequest>>) -> bool {
+        match self.nodes.get(number) {
+            Some(node) => node.held(slot) == batch,
+            None => false,
+        }
     }
 
     /// Whether two nodes hold a batch for a slot, and the same.
