@@ -29,21 +29,6 @@ pub(crate) fn refuse<L: Locks + Drop>(
     same(rt, number_of(nodes.step(&step)), number);
 }
 
-/// A node stands at the end of this epoch, with so many rows.
-pub(crate) fn check_stands<L: Locks + Drop>(
-    rt: &impl Abort,
-    nodes: &Nodes<L>,
-    number: usize,
-    epoch: Option<u64>,
-    rows: usize,
-) {
-    same(
-        rt,
-        (number, nodes.stands(number)),
-        (number, Some((epoch, rows))),
-    );
-}
-
 /// The packet of this number is this message, from one replica to another.
 pub(crate) fn check_letter<L: Locks + Drop>(
     rt: &impl Abort,

@@ -1,10 +1,7 @@
-//! The worked cases of one node and of one group, whose nodes hand each other what they send, checked over the statements of
-//! the crates below.
+//! The worked cases of one group, whose nodes hand each other what they send, checked over the statements of the crates below.
 #![tactic(auto)]
 
 #[cfg(test)]
 mod agreement;
 #[cfg(test)]
 mod checks;
-#[cfg(test)]
-mod single;

@@ -1,0 +1,7 @@
+//! The worked cases of one node alone, checked over the statements of the crates below.
+#![tactic(auto)]
+
+#[cfg(test)]
+mod checks;
+#[cfg(test)]
+mod single;
