@@ -107,6 +107,18 @@ impl<Args: Copy> Merge<Args> {
         self.next
     }
 
+    /// The next epoch, where a batch of each group is held for it.
+    fn complete(&self) -> Option<u64>
+        ensures { MatchOption result (¬ IsComplete self.now) (λ epoch. IsComplete self.now × (epoch ≡ self.now.next)) }
+    {
+        let epoch = self.next?;
+        if self.held.has_all(epoch, self.partitions) {
+            Some(epoch)
+        } else {
+            None
+        }
+    }
+
     /// Goes on to the next epoch as `take_epoch` does, for a caller who reads the requests where they stand: none is
     /// copied. Refused with `NotComplete` where a group's batch isn't held for that epoch, as always once no epoch is
     /// left. Batches stay held.
@@ -117,13 +129,11 @@ impl<Args: Copy> Merge<Args> {
         ensures only { IsOkUnless result Fault.NotComplete }
         ensures err { OnErr result (self.new ≡ self.old) }
     {
-        match self.next {
-            Some(last) if self.held.has_all(last, self.partitions) => {
-                self.next = last.checked_add(1);
-                Ok(())
-            }
-            _ => Err(Fault::NotComplete),
-        }
+        let Some(epoch) = self.complete() else {
+            return Err(Fault::NotComplete);
+        };
+        self.next = epoch.checked_add(1);
+        Ok(())
     }
 
     /// Discards the batches that are held for an epoch, for a caller who doesn't need them again: else what is held grows
@@ -147,12 +157,9 @@ impl<Args: Copy> Merge<Args> {
         ensures err { OnErr result (self.new ≡ self.old) }
         ensures reserved { IsReady self.old → IsOkUnless result Fault.NotComplete }
     {
-        let Some(epoch) = self.next else {
+        let Some(epoch) = self.complete() else {
             return Err(Fault::NotComplete);
         };
-        if !self.held.has_all(epoch, self.partitions) {
-            return Err(Fault::NotComplete);
-        }
         self.ready.reserve(self.held.count(epoch, self.partitions))?;
         let mut requests = mem::replace(&mut self.ready, Vec::new(self.alloc));
         self.held.append_all(epoch, self.partitions, &mut requests);
@@ -169,15 +176,13 @@ impl<Args: Copy> Merge<Args> {
         ensures not_complete { IsErrOf result Fault.NotComplete ↔ ¬ IsComplete self.now }
         ensures only { IfErr result (λ fault. (fault ≡ Fault.NotComplete) ⊎ ((fault ≡ Fault.OutOfMemory) × (0 < length (joined (held_by self.now) self.now.next self.now.partitions)))) }
     {
-        match self.next {
-            Some(next) if self.held.has_all(next, self.partitions) => {
-                let mut requests = Vec::new(self.alloc);
-                requests.reserve(self.held.count(next, self.partitions))?;
-                self.held.append_all(next, self.partitions, &mut requests);
-                Ok(requests)
-            }
-            _ => Err(Fault::NotComplete),
-        }
+        let Some(epoch) = self.complete() else {
+            return Err(Fault::NotComplete);
+        };
+        let mut requests = Vec::new(self.alloc);
+        requests.reserve(self.held.count(epoch, self.partitions))?;
+        self.held.append_all(epoch, self.partitions, &mut requests);
+        Ok(requests)
     }
 
     /// Makes room for what is held for the next epoch, so that `take_epoch`, made next, isn't refused with
