@@ -1,7 +1,7 @@
 //! The operations of the application Stock.
 ghost use Rattle.std.specs.Prelude.{◌≡◌, option_map};
 ghost use Rattle.serde_json.specs.View.{view};
-ghost use Rattle.calvin_script.specs.StockOperations.{line, lines, order, order_of_lines};
+ghost use Rattle.calvin_script.specs.StockOperations.{line, lines, order, order_of_lines, additem, restock, open_of, payin, settle, balance, stock_operation};
 
 use crate::fields::{u32_of, u64_of};
 use crate::numbers::{one_number, three_numbers, two_numbers};
@@ -61,6 +61,82 @@ fn order_of(value: &Value) -> Option<Order>
     order_of_lines(customer, number, &lines)
 }
 
+/// What the items behind the name `additem` spell.
+#[tactic(auto, unfolding(crate::specs::StockOperations::additem))]
+fn new_item_of(value: &Value) -> Option<StockRequest>
+    ensures { result ≡ additem (view value.now) }
+{
+    let (item, pieces, price) = three_numbers(value)?;
+    Some(StockRequest::AddItem {
+        item,
+        pieces,
+        price,
+    })
+}
+
+/// What the items behind the name `restock` spell.
+#[tactic(auto, unfolding(crate::specs::StockOperations::restock))]
+fn restock_of(value: &Value) -> Option<StockRequest>
+    ensures { result ≡ restock (view value.now) }
+{
+    let (item, pieces) = two_numbers(value)?;
+    Some(StockRequest::Restock { item, pieces })
+}
+
+/// What the items behind the name `open` spell.
+#[tactic(auto, unfolding(crate::specs::StockOperations::open_of))]
+fn open_of(value: &Value) -> Option<StockRequest>
+    ensures { result ≡ open_of (view value.now) }
+{
+    let customer = one_number(value)?;
+    Some(StockRequest::Open { customer })
+}
+
+/// What the items behind the name `payin` spell.
+#[tactic(auto, unfolding(crate::specs::StockOperations::payin))]
+fn payment_of(value: &Value) -> Option<StockRequest>
+    ensures { result ≡ payin (view value.now) }
+{
+    let (customer, cents) = two_numbers(value)?;
+    Some(StockRequest::PayIn { customer, cents })
+}
+
+/// What the items behind the name `settle` spell.
+#[tactic(auto, unfolding(crate::specs::StockOperations::settle))]
+fn settlement_of(value: &Value) -> Option<StockRequest>
+    ensures { result ≡ settle (view value.now) }
+{
+    let customer = one_number(value)?;
+    Some(StockRequest::Settle { customer })
+}
+
+/// What the items behind the name `balance` spell.
+#[tactic(auto, unfolding(crate::specs::StockOperations::balance))]
+fn balance_of(value: &Value) -> Option<StockRequest>
+    ensures { result ≡ balance (view value.now) }
+{
+    let customer = one_number(value)?;
+    Some(StockRequest::Balance { customer })
+}
+
+/// The operation that a list of a name and what stands behind it spells.
+#[tactic(auto, unfolding(crate::specs::StockOperations::stock_operation))]
+fn operation_of(value: &Value) -> Option<StockRequest>
+    ensures { result ≡ stock_operation (view value.now) }
+{
+    let name = value.get(0)?.as_str()?;
+    match name {
+        "additem" => new_item_of(value),
+        "restock" => restock_of(value),
+        "open" => open_of(value),
+        "payin" => payment_of(value),
+        "order" => order_of(value).map(StockRequest::Order),
+        "settle" => settlement_of(value),
+        "balance" => balance_of(value),
+        _ => None,
+    }
+}
+
 impl Operation for StockRequest {
     ghost use Rattle.calvin_script.specs.StockOperations.{stock_grammar};
 
@@ -74,36 +150,8 @@ impl Operation for StockRequest {
         StockRequest::Balance { customer: 0 }
     }
 
-    #[tactic(auto, unfolding(crate::specs::StockOperations::stock_operation, crate::specs::StockOperations::additem, crate::specs::StockOperations::restock, crate::specs::StockOperations::open_of, crate::specs::StockOperations::payin, crate::specs::StockOperations::settle, crate::specs::StockOperations::balance))]
     fn read(&mut self, _id: RequestId, value: &Value) -> Option<()> {
-        let name = value.get(0)?.as_str()?;
-        if name == "additem" {
-            let (item, pieces, price) = three_numbers(value)?;
-            *self = StockRequest::AddItem {
-                item,
-                pieces,
-                price,
-            };
-        } else if name == "restock" {
-            let (item, pieces) = two_numbers(value)?;
-            *self = StockRequest::Restock { item, pieces };
-        } else if name == "open" {
-            let customer = one_number(value)?;
-            *self = StockRequest::Open { customer };
-        } else if name == "payin" {
-            let (customer, cents) = two_numbers(value)?;
-            *self = StockRequest::PayIn { customer, cents };
-        } else if name == "order" {
-            *self = StockRequest::Order(order_of(value)?);
-        } else if name == "settle" {
-            let customer = one_number(value)?;
-            *self = StockRequest::Settle { customer };
-        } else if name == "balance" {
-            let customer = one_number(value)?;
-            *self = StockRequest::Balance { customer };
-        } else {
-            return None;
-        }
+        *self = operation_of(value)?;
         Some(())
     }
 
