@@ -1,133 +1,15 @@
-//! Lives of nodes in which what is refused for want of memory is tried again, and one of them: that of the two partitions of a
-//! replica. Here and in the life of three replicas (`voting_life`) every message and every event has effect, those at a
-//! majority and those below it, but two: plain rows have no points and no cold table, so a mark (56) and a row that is to cool
-//! (55, 57) are refused. With ample memory nothing else is. `rt try --test --fail-alloc N` refuses the Nth allocation of a
-//! test: for each N, from 1 until `nothing_refused` has passed for many in turn, `refused_once` has to pass
-//! (`tools/check_refusals`).
-use crate::checks::{holds, same};
-use crate::scarce::ScarceRows;
+//! A life of the two partitions of a replica, in which what is refused for want of memory is tried again. Here and in the life
+//! of three replicas (calvin_voting_cases) every message and every event has effect, those at a majority and those below it,
+//! but two: plain rows have no points and no cold table, so a mark (56) and a row that is to cool (55, 57) are refused. With
+//! ample memory nothing else is. `rt try --test --fail-alloc N` refuses the Nth allocation of a test: for each N, from 1 until
+//! `nothing_refused` has passed for many in turn, `refused_once` has to pass (`tools/check_refusals`).
+use crate::checks::{goes_on, same};
 use calvin_app::KvRequest;
-use calvin_lock::QueueLocks;
-use calvin_node_steps::{Nodes, Step, number_of};
-use calvin_store::PlainRows;
+use calvin_node_steps::{Life, ScarceNodes, Step};
 use calvin_types::{Config, Fault, KeySet, NodeId, Place, Slot};
 use std::alloc::Global;
 use std::process::Abort;
 use std::test::Fail;
-
-/// Nodes whose rows are plain ones that are refused a load by one growth.
-pub(crate) type ScarceNodes = Nodes<QueueLocks, ScarceRows<PlainRows<u64>>>;
-
-/// Nodes to which events happen; others, to which those with effect happen afterwards, so that until then they are what the
-/// first ones were before; for how many more packets there is memory at each event; and how often memory was refused.
-#[derive(Drop)]
-pub(crate) struct Life {
-    nodes: ScarceNodes,
-    others: ScarceNodes,
-    room: usize,
-    refused: usize,
-}
-
-impl Life {
-    /// No event has happened yet.
-    fn new(alloc: Global, config: Config, room: usize) -> Result<Life, Fault> {
-        let nodes = Nodes::of(alloc, config)?;
-        match Nodes::of(alloc, config) {
-            Ok(others) => Ok(Life {
-                nodes,
-                others,
-                room,
-                refused: 0,
-            }),
-            Err(fault) => {
-                nodes.end();
-                Err(fault)
-            }
-        }
-    }
-
-    /// The nodes are opened, if not at once then with memory.
-    pub(crate) fn open(alloc: Global, config: Config, room: usize) -> Result<Life, Fault> {
-        match Life::new(alloc, config, room) {
-            Ok(life) => Ok(life),
-            Err(_refused) => {
-                let mut life = Life::new(alloc, config, room)?;
-                life.refused = 1;
-                Ok(life)
-            }
-        }
-    }
-
-    /// The nodes, to be asked.
-    pub(crate) fn nodes(&self) -> &ScarceNodes {
-        &self.nodes
-    }
-
-    /// The life ends. Says how often memory was refused.
-    pub(crate) fn end(self) -> usize {
-        self.refused
-    }
-
-    /// The nodes tell the same as the others, and have sent the same packets.
-    fn check_alike(&self, rt: &impl Abort) {
-        holds(rt, self.nodes.is_alike(&self.others));
-    }
-
-    /// The outbox has memory for no more packets than is said, if not at once then with memory.
-    fn leave_room(&mut self, rt: &impl Abort) {
-        if self.nodes.leave_room(self.room).is_err() {
-            self.refused = self.refused.saturating_add(1);
-            holds(rt, self.nodes.leave_room(self.room).is_ok());
-        }
-    }
-
-    /// What takes effect at the nodes does so at the others too, if not at once then with memory.
-    fn follow(&mut self, rt: &impl Abort, step: &Step) {
-        let mut refusal = number_of(self.others.step(step));
-        if refusal == 1 {
-            self.refused = self.refused.saturating_add(1);
-            refusal = number_of(self.others.step(step));
-        }
-        same(rt, refusal, 0);
-    }
-
-    /// An event takes effect, if not at once then with memory: a refusal for want of it changes nothing.
-    fn endure(&mut self, rt: &impl Abort, step: &Step) {
-        self.leave_room(rt);
-        let mut refusal = number_of(self.nodes.step(step));
-        if refusal == 1 {
-            self.refused = self.refused.saturating_add(1);
-            self.check_alike(rt);
-            refusal = number_of(self.nodes.step(step));
-        }
-        same(rt, refusal, 0);
-        self.follow(rt, step);
-        self.check_alike(rt);
-    }
-
-    /// Events take effect one after another.
-    pub(crate) fn endure_all(&mut self, rt: &impl Abort, steps: &[Step]) {
-        for step in steps {
-            self.endure(rt, step);
-        }
-    }
-
-    /// The packets from one number on and before another are delivered, and each takes effect.
-    pub(crate) fn deliver(&mut self, rt: &impl Abort, first: usize, last: usize) {
-        for number in first..last {
-            self.endure(rt, &Step::Deliver(number));
-        }
-    }
-
-    /// Events are refused, each with its number and for no want of memory, and change nothing.
-    pub(crate) fn refuse_all(&mut self, rt: &impl Abort, steps: &[(Step, u8)]) {
-        for (step, number) in steps {
-            self.leave_room(rt);
-            same(rt, number_of(self.nodes.step(step)), *number);
-            self.check_alike(rt);
-        }
-    }
-}
 
 /// The two nodes, which have the numbers of their partitions. Key 2 is stored at node 0, key 1 at node 1.
 const NODES: [NodeId; 2] = [
@@ -162,9 +44,9 @@ fn without_keys() -> KvRequest {
 
 /// What comes too early, or has no node, group, replica or key.
 fn too_early(life: &mut Life, rt: &impl Abort) {
-    life.refuse_all(
+    goes_on(
         rt,
-        &[
+        life.refuse_all(&[
             (Step::Submit(0, 1, without_keys()), 31),
             (Step::SubmitCold(0, 1, without_keys()), 31),
             (Step::Propose(0, 0), 35),
@@ -179,39 +61,51 @@ fn too_early(life: &mut Life, rt: &impl Abort) {
             (Step::AskBatch(0, slot(0, 2), NODES[1]), 60),
             (Step::Mark(0, 0), 56),
             (Step::Cool(0, 2), 55),
-        ],
+        ]),
     );
 }
 
 /// Epoch 0: the packets 0 and 1 warm, 4 is the refusal of a prepare that came twice, 7 and 12 tell the decided batches, of
 /// which the latter is lost and asked for.
 fn agree_on_the_put(life: &mut Life, rt: &impl Abort) {
-    life.endure_all(rt, &[Step::SubmitCold(0, 2, MOVE), Step::Submit(0, 1, PUT)]);
-    life.deliver(rt, 0, 2);
-    life.endure_all(rt, &[Step::Close(0), Step::Propose(0, 0)]);
-    life.endure_all(rt, &[Step::Deliver(2), Step::Deliver(2), Step::Deliver(3)]);
-    life.refuse_all(rt, &[(Step::Deliver(3), 21), (Step::Deliver(4), 21)]);
-    life.deliver(rt, 5, 8);
-    life.endure_all(rt, &[Step::Close(1), Step::Propose(1, 0)]);
-    life.deliver(rt, 8, 12);
-    life.endure_all(rt, &[Step::AskBatch(0, slot(0, 1), NODES[1])]);
-    life.deliver(rt, 13, 15);
-    life.refuse_all(
+    goes_on(
         rt,
-        &[
+        life.endure_all(&[Step::SubmitCold(0, 2, MOVE), Step::Submit(0, 1, PUT)]),
+    );
+    goes_on(rt, life.deliver(0, 2));
+    goes_on(rt, life.endure_all(&[Step::Close(0), Step::Propose(0, 0)]));
+    goes_on(
+        rt,
+        life.endure_all(&[Step::Deliver(2), Step::Deliver(2), Step::Deliver(3)]),
+    );
+    goes_on(
+        rt,
+        life.refuse_all(&[(Step::Deliver(3), 21), (Step::Deliver(4), 21)]),
+    );
+    goes_on(rt, life.deliver(5, 8));
+    goes_on(rt, life.endure_all(&[Step::Close(1), Step::Propose(1, 0)]));
+    goes_on(rt, life.deliver(8, 12));
+    goes_on(
+        rt,
+        life.endure_all(&[Step::AskBatch(0, slot(0, 1), NODES[1])]),
+    );
+    goes_on(rt, life.deliver(13, 15));
+    goes_on(
+        rt,
+        life.refuse_all(&[
             (Step::Deliver(6), 22),
             (Step::Deliver(12), 22),
             (Step::Propose(0, 0), 36),
             (Step::AskBatch(0, slot(0, 1), NODES[1]), 22),
-        ],
+        ]),
     );
 }
 
 /// The put is run by node 1, whose reply is packet 15, and node 0 passes over it. Snapshots are taken.
 fn run_the_put(life: &mut Life, rt: &impl Abort) {
-    life.endure_all(
+    goes_on(
         rt,
-        &[
+        life.endure_all(&[
             Step::Merge(0),
             Step::Merge(1),
             Step::Lock(0),
@@ -220,11 +114,11 @@ fn run_the_put(life: &mut Life, rt: &impl Abort) {
             Step::Run(1, FIRST),
             Step::Snapshot(0, 0),
             Step::Snapshot(1, 0),
-        ],
+        ]),
     );
-    life.refuse_all(
+    goes_on(
         rt,
-        &[
+        life.refuse_all(&[
             (Step::Begin(1, FIRST), 42),
             (Step::Finish(1, FIRST), 41),
             (Step::Run(1, FIRST), 41),
@@ -232,56 +126,71 @@ fn run_the_put(life: &mut Life, rt: &impl Abort) {
             (Step::Mark(1, 0), 56),
             (Step::Cool(1, 1), 57),
             (Step::Deliver(15), 52),
-        ],
+        ]),
     );
 }
 
 /// Epoch 1: the packets 16 to 20 and 21 to 25 are those of the two batches. Packet 26 brings node 1 its rows; 27, with those
 /// for node 0, is lost, and they are asked for. The replies are packets 30 and 31.
 fn live_epoch_one(life: &mut Life, rt: &impl Abort) {
-    life.endure_all(rt, &[Step::Close(0), Step::Propose(0, 1)]);
-    life.deliver(rt, 16, 21);
-    life.endure_all(rt, &[Step::Close(1), Step::Propose(1, 1)]);
-    life.deliver(rt, 21, 26);
-    life.endure_all(rt, &[Step::Merge(0), Step::Merge(1)]);
-    life.endure_all(rt, &[Step::Lock(0), Step::Lock(1)]);
-    life.endure_all(rt, &[Step::Begin(0, SECOND), Step::Begin(1, SECOND)]);
-    life.deliver(rt, 26, 27);
-    life.refuse_all(
+    goes_on(rt, life.endure_all(&[Step::Close(0), Step::Propose(0, 1)]));
+    goes_on(rt, life.deliver(16, 21));
+    goes_on(rt, life.endure_all(&[Step::Close(1), Step::Propose(1, 1)]));
+    goes_on(rt, life.deliver(21, 26));
+    goes_on(rt, life.endure_all(&[Step::Merge(0), Step::Merge(1)]));
+    goes_on(rt, life.endure_all(&[Step::Lock(0), Step::Lock(1)]));
+    goes_on(
         rt,
-        &[
+        life.endure_all(&[Step::Begin(0, SECOND), Step::Begin(1, SECOND)]),
+    );
+    goes_on(rt, life.deliver(26, 27));
+    goes_on(
+        rt,
+        life.refuse_all(&[
             (Step::Deliver(26), 43),
             (Step::Finish(0, SECOND), 44),
             (Step::Run(0, SECOND), 44),
             (Step::Snapshot(0, 1), 50),
-        ],
+        ]),
     );
-    life.endure_all(rt, &[Step::AskReads(0, SECOND, 0)]);
-    life.deliver(rt, 28, 30);
-    life.endure_all(rt, &[Step::Finish(0, SECOND), Step::Run(1, SECOND)]);
-    life.endure_all(rt, &[Step::Snapshot(0, 1)]);
+    goes_on(rt, life.endure_all(&[Step::AskReads(0, SECOND, 0)]));
+    goes_on(rt, life.deliver(28, 30));
+    goes_on(
+        rt,
+        life.endure_all(&[Step::Finish(0, SECOND), Step::Run(1, SECOND)]),
+    );
+    goes_on(rt, life.endure_all(&[Step::Snapshot(0, 1)]));
 }
 
 /// Node 1 comes back with the rows of epoch 0, is opened from its record, and replays epoch 1: it asks node 0 for the batches
 /// with the packets 32 and 33, and for rows with packet 37. Its rows for node 0 are packet 36, its reply packet 39.
 fn come_back(life: &mut Life, rt: &impl Abort) {
-    life.endure_all(rt, &[Step::Restart(1), Step::Reopen]);
-    same(rt, life.nodes.stands(1), Some((Some(0), 1)));
-    same(rt, life.nodes.row(1, 1), Some(10));
-    life.endure_all(
+    goes_on(rt, life.endure_all(&[Step::Restart(1), Step::Reopen]));
+    same(rt, life.nodes().stands(1), Some((Some(0), 1)));
+    same(rt, life.nodes().row(1, 1), Some(10));
+    goes_on(
         rt,
-        &[
+        life.endure_all(&[
             Step::AskBatch(1, slot(1, 0), NODES[0]),
             Step::AskBatch(1, slot(1, 1), NODES[0]),
-        ],
+        ]),
     );
-    life.deliver(rt, 32, 36);
-    life.endure_all(rt, &[Step::Merge(1), Step::Lock(1), Step::Begin(1, SECOND)]);
-    life.refuse_all(rt, &[(Step::Deliver(36), 43)]);
-    life.endure_all(rt, &[Step::AskReads(1, SECOND, 0)]);
-    life.deliver(rt, 37, 39);
-    life.endure_all(rt, &[Step::Finish(1, SECOND), Step::Restart(0)]);
-    life.refuse_all(rt, &[(Step::Deliver(37), 47), (Step::Deliver(33), 23)]);
+    goes_on(rt, life.deliver(32, 36));
+    goes_on(
+        rt,
+        life.endure_all(&[Step::Merge(1), Step::Lock(1), Step::Begin(1, SECOND)]),
+    );
+    goes_on(rt, life.refuse_all(&[(Step::Deliver(36), 43)]));
+    goes_on(rt, life.endure_all(&[Step::AskReads(1, SECOND, 0)]));
+    goes_on(rt, life.deliver(37, 39));
+    goes_on(
+        rt,
+        life.endure_all(&[Step::Finish(1, SECOND), Step::Restart(0)]),
+    );
+    goes_on(
+        rt,
+        life.refuse_all(&[(Step::Deliver(37), 47), (Step::Deliver(33), 23)]),
+    );
 }
 
 /// Both nodes stand at the end of epoch 1 with what was put and moved, and so many packets were sent.

@@ -7,7 +7,7 @@ use std::alloc::Global;
 /// The rows of another keeper, which loads a snapshot once there is memory for a byte too. Plain rows take what they load
 /// although a growth was refused, and are refused only where the next one is refused too; these are refused by one.
 #[derive(Drop)]
-pub(crate) struct ScarceRows<S> {
+pub struct ScarceRows<S> {
     alloc: Global,
     rows: S,
 }

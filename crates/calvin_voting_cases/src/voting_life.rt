@@ -1,9 +1,9 @@
-//! A life of the three replicas of one partition, in which what is refused for want of memory is tried again (`enduring`). A
-//! node's number is its replica, and two of them are a majority.
-use crate::checks::{holds, same};
-use crate::enduring::{Life, ScarceNodes};
+//! A life of the three replicas of one partition, in which what is refused for want of memory is tried again, as in that of two
+//! partitions (calvin_life_cases, which says how each allocation is refused). A node's number is its replica, and two of them
+//! are a majority.
+use crate::checks::{goes_on, holds, same};
 use calvin_app::KvRequest;
-use calvin_node_steps::{SLOT, Sent, Step, X, at};
+use calvin_node_steps::{Life, SLOT, ScarceNodes, Sent, Step, X, at};
 use calvin_packets::Content;
 use calvin_synod::Message;
 use calvin_types::{Ballot, Config, Fault, Place, Slot};
@@ -62,43 +62,49 @@ fn voted(packet: &Sent) -> Option<Ballot> {
 /// Node 0 proposes X for epoch 0: prepares 0 to 2, promises 3 to 5, accepts 6 to 8, votes of replica 0: 9 to 11, of replica 1:
 /// 12 to 14, of replica 2: 15 to 17. Nodes 0 and 2 come to hold X, and node 1 counts one vote.
 fn vote_for_x(life: &mut Life, rt: &impl Abort) {
-    life.endure_all(
+    goes_on(
         rt,
-        &[Step::Submit(0, 1, X), Step::Close(0), Step::Propose(0, 0)],
+        life.endure_all(&[Step::Submit(0, 1, X), Step::Close(0), Step::Propose(0, 0)]),
     );
-    life.deliver(rt, 0, 5);
-    life.refuse_all(rt, &[(Step::Deliver(4), 21), (Step::Deliver(5), 21)]);
-    life.deliver(rt, 6, 10);
-    life.refuse_all(rt, &[(Step::Deliver(9), 22)]);
-    life.endure_all(
+    goes_on(rt, life.deliver(0, 5));
+    goes_on(
         rt,
-        &[
+        life.refuse_all(&[(Step::Deliver(4), 21), (Step::Deliver(5), 21)]),
+    );
+    goes_on(rt, life.deliver(6, 10));
+    goes_on(rt, life.refuse_all(&[(Step::Deliver(9), 22)]));
+    goes_on(
+        rt,
+        life.endure_all(&[
             Step::Deliver(12),
             Step::Deliver(11),
             Step::Deliver(14),
             Step::Deliver(10),
-        ],
+        ]),
     );
-    life.refuse_all(rt, &[(Step::Deliver(15), 22), (Step::Deliver(10), 22)]);
+    goes_on(
+        rt,
+        life.refuse_all(&[(Step::Deliver(15), 22), (Step::Deliver(10), 22)]),
+    );
 }
 
 /// Node 1 begins a ballot for Y: prepares 18 to 20, promises 21 and 22 with the votes for X, accepts 23 to 25, votes of replica
 /// 0: 26 to 28, of replica 2: 29 to 31. It comes to hold X, and Y is queued again.
 fn vote_for_x_again(life: &mut Life, rt: &impl Abort) {
-    life.endure_all(
+    goes_on(
         rt,
-        &[
+        life.endure_all(&[
             Step::Submit(1, 2, Y),
             Step::Close(1),
             Step::Propose(1, 0),
             Step::Deliver(18),
             Step::Deliver(20),
-        ],
+        ]),
     );
-    life.deliver(rt, 21, 24);
-    life.endure_all(
+    goes_on(rt, life.deliver(21, 24));
+    goes_on(
         rt,
-        &[Step::Deliver(25), Step::Deliver(27), Step::Deliver(30)],
+        life.endure_all(&[Step::Deliver(25), Step::Deliver(27), Step::Deliver(30)]),
     );
     holds(rt, life.nodes().hold_same(0, 1, SLOT));
     holds(rt, life.nodes().hold_same(0, 2, SLOT));
@@ -109,56 +115,56 @@ fn vote_for_x_again(life: &mut Life, rt: &impl Abort) {
 /// begins with 1: prepares 37 to 39, of which node 1 refuses one with packet 40. So it begins with round 3 and proposes Z:
 /// prepares 41 to 43, promises 44 and 45, accepts 46 to 48.
 fn contend(life: &mut Life, rt: &impl Abort) {
-    life.endure_all(rt, &[Step::Close(0), Step::Propose(0, 1)]);
-    life.deliver(rt, 32, 34);
-    life.endure_all(
+    goes_on(rt, life.endure_all(&[Step::Close(0), Step::Propose(0, 1)]));
+    goes_on(rt, life.deliver(32, 34));
+    goes_on(
         rt,
-        &[
+        life.endure_all(&[
             Step::Submit(2, 3, Z),
             Step::Close(2),
             Step::Propose(2, 1),
             Step::Deliver(38),
             Step::Deliver(40),
-        ],
+        ]),
     );
     check_prepares(rt, life.nodes(), 37, SECOND, at(1, 2));
     check_refused(rt, life.nodes(), 40, 1, at(1, 2), at(2, 0));
-    life.refuse_all(rt, &[(Step::Deliver(40), 21)]);
-    life.endure_all(rt, &[Step::Propose(2, 1)]);
+    goes_on(rt, life.refuse_all(&[(Step::Deliver(40), 21)]));
+    goes_on(rt, life.endure_all(&[Step::Propose(2, 1)]));
     check_prepares(rt, life.nodes(), 41, SECOND, at(3, 2));
-    life.deliver(rt, 42, 46);
+    goes_on(rt, life.deliver(42, 46));
 }
 
 /// Node 0's accepts come too late: of 49 to 51 node 1 refuses one with packet 52. Node 0 begins with round 4: prepares 53 to
 /// 55. Node 2's accepts come before: votes of replica 1: 56 to 58, of replica 2: 59 to 61, and node 2 comes to hold Z. Node 0
 /// is told so by a vote: promises 62 and 63, accepts 64 to 66, votes of replica 0: 67 to 69, of replica 1: 70 to 72.
 fn give_way(life: &mut Life, rt: &impl Abort) {
-    life.deliver(rt, 35, 37);
-    life.endure_all(rt, &[Step::Deliver(50), Step::Deliver(52)]);
+    goes_on(rt, life.deliver(35, 37));
+    goes_on(rt, life.endure_all(&[Step::Deliver(50), Step::Deliver(52)]));
     check_refused(rt, life.nodes(), 52, 1, at(2, 0), at(3, 2));
-    life.endure_all(
+    goes_on(
         rt,
-        &[
+        life.endure_all(&[
             Step::Propose(0, 1),
             Step::Deliver(47),
             Step::Deliver(48),
             Step::Deliver(58),
             Step::Deliver(61),
-        ],
+        ]),
     );
     check_prepares(rt, life.nodes(), 53, SECOND, at(4, 0));
-    life.deliver(rt, 53, 55);
-    life.deliver(rt, 62, 66);
-    life.endure_all(rt, &[Step::Deliver(67), Step::Deliver(70)]);
+    goes_on(rt, life.deliver(53, 55));
+    goes_on(rt, life.deliver(62, 66));
+    goes_on(rt, life.endure_all(&[Step::Deliver(67), Step::Deliver(70)]));
     holds(rt, life.nodes().hold_same(0, 2, SECOND));
     same(rt, life.nodes().queued(2), Some(0));
 }
 
 /// Node 2 runs both epochs, with the replies 73 and 74, and takes a snapshot.
 fn run_both(life: &mut Life, rt: &impl Abort) {
-    life.endure_all(
+    goes_on(
         rt,
-        &[
+        life.endure_all(&[
             Step::Merge(2),
             Step::Merge(2),
             Step::Lock(2),
@@ -168,7 +174,7 @@ fn run_both(life: &mut Life, rt: &impl Abort) {
             Step::Begin(2, Place { epoch: 1, n: 0 }),
             Step::Finish(2, Place { epoch: 1, n: 0 }),
             Step::Snapshot(2, 1),
-        ],
+        ]),
     );
 }
 
@@ -176,9 +182,9 @@ fn run_both(life: &mut Life, rt: &impl Abort) {
 /// its own first ballot in packet 75; its vote, which it reports in packet 76; and the greatest round that it used, after
 /// which it begins a ballot for epoch 2: prepares 77 to 79.
 fn come_back(life: &mut Life, rt: &impl Abort) {
-    life.endure_all(
+    goes_on(
         rt,
-        &[
+        life.endure_all(&[
             Step::Restart(2),
             Step::Reopen,
             Step::Deliver(39),
@@ -186,13 +192,16 @@ fn come_back(life: &mut Life, rt: &impl Abort) {
             Step::Submit(2, 4, Y),
             Step::Close(2),
             Step::Propose(2, 2),
-        ],
+        ]),
     );
     check_refused(rt, life.nodes(), 75, 2, at(1, 2), at(3, 2));
     let told = life.nodes().packets().get(76).and_then(voted);
     same(rt, told, Some(at(3, 2)));
     check_prepares(rt, life.nodes(), 77, THIRD, at(4, 2));
-    life.refuse_all(rt, &[(Step::Deliver(75), 21), (Step::Deliver(76), 21)]);
+    goes_on(
+        rt,
+        life.refuse_all(&[(Step::Deliver(75), 21), (Step::Deliver(76), 21)]),
+    );
     same(rt, life.nodes().packets().len(), 80);
 }
 
