@@ -13,7 +13,8 @@ pub type ScarceNodes = Nodes<QueueLocks, ScarceRows<PlainRows<u64>>>;
 /// What goes wrong in a life.
 #[derive(Clone, Copy, PartialEq, Eq, Debug)]
 pub enum Wrong {
-    /// An event ends otherwise than it should: with this number of a refusal, or with 0 where it takes effect.
+    /// An event, or making room for what it sends, ends otherwise than it should: with this number of a refusal, or with 0
+    /// where it takes effect.
     Ends(u8),
     /// The nodes tell something else than the others, or have sent something else.
     Differ,

@@ -8,11 +8,9 @@
 --     listed_for g epochs      how many requests of a group these epochs list
 --     fits script      a sequencer has room for all requests of its group, and each epoch has a number
 --     AllTaken script      a sequencer takes each request that is listed, whatever it has taken before
---     is_quiet event      it submits and closes nothing
 --     AllDone m w events v      these events lead from w to v, each with effect
---     LeadsQuietly m w v      some events that submit and close nothing lead from w to v, with whatever outcomes
 --     IsSimulation m c script v      the submissions of the script and then quiet events lead from the opening to v
-use Rattle.std.specs.Prelude.{◌≡◌, ℕ, Bool, true, false, ◌&&◌, nat_le, List, [], ◌∷◌, ◌++◌, map, length, sum_by}
+use Rattle.std.specs.Prelude.{◌≡◌, ℕ, Bool, true, ◌&&◌, nat_le, List, [], ◌∷◌, ◌++◌, map, length, sum_by}
 use Rattle.std.specs.List.{flat_map, list_all, range_with_len}
 use Rattle.calvin_types.specs.declared.limits.TheConstants.{MOST_UNDECIDED, MOST_EPOCHS}
 use Rattle.calvin_types.specs.declared.place.NodeId.{NodeId}
@@ -20,13 +18,13 @@ use Rattle.calvin_app.specs.Meaning.{Meaning}
 use Rattle.calvin_order.specs.Configs.{Config}
 use Rattle.calvin_script.specs.declared.contents.Request.{Request}
 use Rattle.calvin_script.specs.Scripts.{Contents, Listed, requests_of, are_taken}
-use Rattle.calvin_acts.specs.declared.act.Act.TheVariants.{Submit, SubmitCold, Close}
+use Rattle.calvin_acts.specs.declared.act.Act.TheVariants.{Submit, Close}
 use Rattle.calvin_world.specs.declared.event.Event.{Event}
 use Rattle.calvin_world.specs.declared.event.Event.TheVariants.{At}
-use Rattle.calvin_world.specs.declared.event.Outcome.{Outcome}
 use Rattle.calvin_world.specs.declared.event.Outcome.TheVariants.{Done}
 use Rattle.calvin_world.specs.Worlds.{WorldState, opening}
 use Rattle.calvin_world.specs.SettledWorlds.{SettledLeads}
+use Rattle.calvin_schedule.specs.Quiet.{LeadsQuietly}
 
 abbrev pub sequencer_of : ℕ → NodeId
 sequencer_of g = record { replica = 0; partition = g }
@@ -54,25 +52,11 @@ module _ {Args : Type 0} where
   abbrev pub AllTaken : Contents Args → Type 0
   AllTaken script = list_all (λ epoch. list_all (λ (b : Listed Args). are_taken b.requests) epoch) script.epochs ≡ true
 
-  -- ---- what follows
-
-  abbrev pub is_quiet : Event Args → Bool
-  is_quiet (At id (Submit t)) = false
-  is_quiet (At id (SubmitCold t)) = false
-  is_quiet (At id Close) = false
-  is_quiet event = true
-
 module _ {Args Row Reply : Type 0} (m : Meaning Args Row Reply) where
   abbrev pub AllDone : WorldState Args Row Reply → List (Event Args) → WorldState Args Row Reply → Type 0
   AllDone w events v = SettledLeads m w events (map (λ event. Done) events) v
 
-  pub record LeadsQuietly (w v : WorldState Args Row Reply) : Type 0 where
-    pub events : List (Event Args)
-    pub outcomes : List Outcome
-    pub quiet : list_all is_quiet events ≡ true
-    pub leads : SettledLeads m w events outcomes v
-
   pub record IsSimulation (c : Config) (script : Contents Args) (v : WorldState Args Row Reply) : Type 0 where
     pub submitted : WorldState Args Row Reply
     pub submits : AllDone (opening c) (submissions script) submitted
-    pub follows : LeadsQuietly submitted v
+    pub follows : LeadsQuietly m submitted v

@@ -14,11 +14,11 @@ ghost use Rattle.calvin_sim.specs.Telling.{IsTold};
 ghost use Rattle.calvin_sim.specs.declared.engine.Simulated.TheVariants as simulated;
 
 use crate::fitting::{fits, read_is_taken};
-use crate::schedule::Schedule;
 use crate::telling::simulate_and_tell;
 use calvin_app::{App, Kv};
 use calvin_edge::{Sink, Source, read_all, write_all};
 use calvin_lock::QueueLocks;
+use calvin_schedule::Schedule;
 use calvin_script::{AppName, Document, Kept, Operation, Script};
 use calvin_stock::{Stock, StockRow};
 use calvin_store::PlainRows;

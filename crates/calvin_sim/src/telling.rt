@@ -10,11 +10,11 @@ ghost use Rattle.calvin_report.specs.Reports.{least_standing};
 ghost use Rattle.calvin_sim.specs.Simulations.{AllTaken, fits, IsSimulation};
 ghost use Rattle.calvin_sim.specs.Telling.{IsTold};
 
-use crate::schedule::Schedule;
 use crate::simulation::simulate;
 use calvin_app::App;
 use calvin_lock::QueueLocks;
 use calvin_report::{Epochs, finished, push_replies, replies_of, told_is_serial};
+use calvin_schedule::Schedule;
 use calvin_script::{Kept, Operation, Script};
 use calvin_store::PlainRows;
 use calvin_text::{Printed, push_last};

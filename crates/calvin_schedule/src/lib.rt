@@ -1,0 +1,13 @@
+//! What happens in a world under a schedule, once a script is submitted: events that are drawn from a start number, and then
+//! those that bring every node to the last epoch. None of them submits or closes anything.
+#![tactic(auto)]
+
+mod asking;
+mod drawing;
+mod schedule;
+mod stepping;
+mod working;
+
+pub use asking::bring_on;
+pub use drawing::draw_events;
+pub use schedule::{MOST_STEPS, Restarts, Schedule};
