@@ -5,6 +5,7 @@ pub mod Fresh
 pub mod Puts
 pub mod Results
 pub mod RowTables
+mod SameJob
 pub mod StoreLaws
 pub mod Values
 pub mod Views

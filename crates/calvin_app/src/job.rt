@@ -1,5 +1,5 @@
 //! A request that can be run anywhere, and what came of it.
-ghost use Rattle.std.specs.Prelude.{◌≡◌};
+ghost use Rattle.std.specs.Prelude.{◌≡◌, MatchBool};
 ghost use Rattle.calvin_app.specs.Serial.{answer_on, writes_on};
 
 use crate::answer::Answer;
@@ -58,4 +58,11 @@ impl<Args: Copy + Eq, Row: Copy + Eq> Job<Args, Row> {
             writes,
         }
     }
+}
+
+/// Whether two jobs of one place are the same request that sees the same rows.
+pub fn is_same_job<A: App>(one: &Job<A::Args, A::Row>, other: &Job<A::Args, A::Row>) -> bool
+    ensures { one.now.place ≡ other.now.place → MatchBool result (one.now ≡ other.now) (one.now ≡ other.now → ⊥) }
+{
+    one.txn == other.txn && one.view.is_same(&other.view)
 }

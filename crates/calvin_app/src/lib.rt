@@ -15,7 +15,7 @@ mod writes;
 
 pub use answer::Answer;
 pub use app::App;
-pub use job::{Computed, Job, Work};
+pub use job::{Computed, Job, Work, is_same_job};
 pub use kv::{Kv, KvReply, KvRequest};
 pub use look::{Look, look_up};
 pub use serial::Serial;

@@ -5,7 +5,8 @@
 //! `nothing_refused` has passed for many in turn, `refused_once` has to pass (`tools/check_refusals`).
 use crate::checks::{goes_on, same};
 use calvin_app::KvRequest;
-use calvin_node_steps::{Life, ScarceNodes, Step};
+use calvin_lives::{Life, ScarceNodes};
+use calvin_node_steps::Step;
 use calvin_types::{Config, Fault, KeySet, NodeId, Place, Slot};
 use std::alloc::Global;
 use std::process::Abort;

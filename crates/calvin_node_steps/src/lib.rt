@@ -1,19 +1,15 @@
 //! Nodes side by side for tests of nodes: events happen to them by their names, they hand each other what they send, and are
-//! compared; and lives of nodes in which memory is refused. What a node does is promised by calvin_node; nothing here carries a
-//! promise of its own, and no part of the program uses it.
+//! compared. What a node does is promised by calvin_node; nothing here carries a promise of its own, and no part of the program
+//! uses it.
 #![tactic(auto)]
 
 mod alike;
 mod letters;
-mod life;
 mod nodes;
-mod scarce;
 mod shown;
 mod step;
 
 pub use letters::{SLOT, X, accept, accepted, at, batch_x, prepare, promise, refused};
-pub use life::{Life, ScarceNodes, Wrong};
 pub use nodes::Nodes;
-pub use scarce::ScarceRows;
 pub use shown::{Letter, Sent, key, place, request};
 pub use step::{Step, number_of};

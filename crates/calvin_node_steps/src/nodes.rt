@@ -8,7 +8,7 @@ use calvin_lock::Locks;
 use calvin_node::{Act, Durable, Node};
 use calvin_packets::Outbox;
 use calvin_store::{PlainRows, Rows};
-use calvin_types::{Batch, Config, Fault, NodeId, Slot};
+use calvin_types::{Batch, Config, Fault, NodeId, Place, Slot};
 use std::alloc::Global;
 
 /// More packets than any case sends.
@@ -71,46 +71,33 @@ impl<L: Locks + Drop, S: Rows<u64> + Drop> Nodes<L, S> {
     }
 
     /// Hands a packet to the node that it is for.
-    fn deliver(&mut self, number: usize) -> Result<(), Fault> {
-        let Some(packet) = self.sent.packets().get(number) else {
-            return Err(Fault::NoPacket);
-        };
-        let packet = copied(packet)?;
+    fn hand_over(&mut self, packet: &Sent) -> Result<(), Fault> {
         for node in self.nodes.iter_mut() {
             if packet.to.is_for(node.id()) {
-                return node.handle(&packet, &mut self.sent);
+                return node.handle(packet, &mut self.sent);
             }
         }
         Err(Fault::NotMine)
     }
 
-    /// An event of a node happens.
-    fn happen(&mut self, number: usize, step: &Step) -> Result<(), Fault> {
+    /// Delivers the packet of a number.
+    fn deliver(&mut self, number: usize) -> Result<(), Fault> {
+        let Some(packet) = self.sent.packets().get(number) else {
+            return Err(Fault::NoPacket);
+        };
+        let packet = copied(packet)?;
+        let outcome = self.hand_over(&packet);
+        drop(packet);
+        outcome
+    }
+
+    /// The request at a place of a node is run beside the node, which then takes what came of it.
+    fn finish(&mut self, number: usize, place: Place) -> Result<(), Fault> {
         let Some(node) = self.nodes.get_mut(number) else {
             return Err(Fault::NoNode);
         };
-        let sent = &mut self.sent;
-        match step {
-            Step::Submit(_, number, args) => node.submit(request(*number, *args)),
-            Step::SubmitCold(_, number, args) => node.submit_cold(request(*number, *args), sent),
-            Step::Close(_) => node.close(),
-            Step::Propose(_, epoch) => node.propose(*epoch, sent),
-            Step::Deliver(_) | Step::Reopen => Err(Fault::NoNode),
-            Step::Merge(_) => node.merge(),
-            Step::Lock(_) => node.lock_next(),
-            Step::Begin(_, place) => node.begin(*place, sent),
-            Step::Finish(_, place) => {
-                let computed = node.job(*place)?.compute(&Kv);
-                node.finish(&computed, sent)
-            }
-            Step::Run(_, place) => node.run(*place, &Kv, sent),
-            Step::Snapshot(_, epoch) => node.snapshot(*epoch),
-            Step::Mark(_, epoch) => node.mark(*epoch),
-            Step::Cool(_, id) => node.cool(&key(*id)),
-            Step::AskReads(_, place, replica) => node.ask_reads(*place, *replica, sent),
-            Step::AskBatch(_, slot, of) => node.ask_batch(*slot, *of, sent),
-            Step::Restart(_) => node.restart(),
-        }
+        let computed = node.job(place)?.compute(&Kv);
+        node.finish(&computed, &mut self.sent)
     }
 
     /// One more node, opened from a durable record; where that is refused, the record is handed back.
@@ -191,25 +178,29 @@ impl<L: Locks + Drop, S: Rows<u64> + Drop> Nodes<L, S> {
 
     /// An event happens.
     pub fn step(&mut self, step: &Step) -> Result<(), Fault> {
-        match step {
-            Step::Deliver(number) => self.deliver(*number),
-            Step::Reopen => self.reopen(),
-            Step::Submit(node, ..)
-            | Step::SubmitCold(node, ..)
-            | Step::Close(node)
-            | Step::Propose(node, _)
-            | Step::Merge(node)
-            | Step::Lock(node)
-            | Step::Begin(node, _)
-            | Step::Finish(node, _)
-            | Step::Run(node, _)
-            | Step::Snapshot(node, _)
-            | Step::Mark(node, _)
-            | Step::Cool(node, _)
-            | Step::AskReads(node, ..)
-            | Step::AskBatch(node, ..)
-            | Step::Restart(node) => self.happen(*node, step),
-        }
+        let (node, act) = match step {
+            Step::Deliver(number) => return self.deliver(*number),
+            Step::Reopen => return self.reopen(),
+            Step::Finish(node, place) => return self.finish(*node, *place),
+            Step::Submit(node, number, args) => (*node, Act::Submit(request(*number, *args))),
+            Step::SubmitCold(node, number, args) => (
+                *node,
+                Act::SubmitCold(request(*number, *args)),
+            ),
+            Step::Close(node) => (*node, Act::Close),
+            Step::Propose(node, epoch) => (*node, Act::Propose(*epoch)),
+            Step::Merge(node) => (*node, Act::Merge),
+            Step::Lock(node) => (*node, Act::Lock),
+            Step::Begin(node, place) => (*node, Act::Begin(*place)),
+            Step::Run(node, place) => (*node, Act::Finish(*place)),
+            Step::Snapshot(node, epoch) => (*node, Act::Snapshot(*epoch)),
+            Step::Mark(node, epoch) => (*node, Act::Mark(*epoch)),
+            Step::Cool(node, id) => (*node, Act::Cool(key(*id))),
+            Step::AskReads(node, place, replica) => (*node, Act::AskForReads(*place, *replica)),
+            Step::AskBatch(node, slot, of) => (*node, Act::AskForBatch(*slot, *of)),
+            Step::Restart(node) => (*node, Act::Restart),
+        };
+        self.act(node, &act)
     }
 
     /// Events happen one after another until one is refused: then this is its number among them, from 0, and the number of

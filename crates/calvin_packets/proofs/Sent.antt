@@ -10,32 +10,29 @@ use Rattle.calvin_types.specs.Participants.{site, has_local_key}
 use Rattle.calvin_lock.specs.Local.{local_sets}
 use Rattle.calvin_sched.proofs.Partitions.{one_more, none_more}
 use Rattle.calvin_types.specs.declared.place.NodeId.{NodeId}
-use Rattle.calvin_synod.specs.declared.message.Message.{Message}
-use Rattle.calvin_synod.specs.Cases.{ToAll}
-use Rattle.calvin_order.specs.Merged.{Batch}
 use Rattle.calvin_packets.specs.declared.packet.Address.TheVariants.{AtNode}
 use Rattle.calvin_packets.specs.declared.packet.Content.{Content}
-use Rattle.calvin_packets.specs.declared.packet.Content.TheVariants.{Synod, Warm}
+use Rattle.calvin_packets.specs.declared.packet.Content.TheVariants.{Warm}
 use Rattle.calvin_packets.specs.declared.packet.Packet.{Packet}
-use Rattle.calvin_packets.specs.Packets.{to_each, synod_packets, warm_packets}
+use Rattle.calvin_packets.specs.Packets.{to_each, to_replicas, warm_packets}
 
 module _ {Args Row Reply : Type 0} where
   -- to one replica more
-  pub one_more_sent : (before : List (Packet Args Row Reply)) (from : NodeId) (message copy : Message (Batch Args)) (n : ℕ) (now after : List (Packet Args Row Reply)) → now ≡ before ++ synod_packets n from (ToAll message) → copy ≡ message
-      → after ≡ now ++ record { from = from; to = AtNode (record { replica = n; partition = from.partition }); content = Synod copy } ∷ [] → after ≡ before ++ synod_packets (n + 1) from (ToAll message)
-  one_more_sent before from message copy n now after so_far same pushed =
+  pub one_more_sent : (before : List (Packet Args Row Reply)) (from : NodeId) (content : Content Args Row Reply) (n : ℕ) (now after : List (Packet Args Row Reply)) → now ≡ before ++ to_replicas n from content
+      → after ≡ now ++ record { from = from; to = AtNode (record { replica = n; partition = from.partition }); content = content } ∷ [] → after ≡ before ++ to_replicas (n + 1) from content
+  one_more_sent before from content n now after so_far pushed =
       pushed
-      ∙ (λ i. so_far i ++ record { from = from; to = AtNode (record { replica = n; partition = from.partition }); content = Synod (same i) } ∷ [])
-      ∙ append_assoc before (synod_packets n from (ToAll message)) (record { from = from; to = AtNode (record { replica = n; partition = from.partition }); content = Synod message } ∷ [])
-      ∙ ap (λ ps. before ++ ps) (sym (map-range_with_len_more (λ r. record { from = from; to = AtNode (record { replica = r; partition = from.partition }); content = Synod message }) 0 n n (omega arith)))
+      ∙ (λ i. so_far i ++ record { from = from; to = AtNode (record { replica = n; partition = from.partition }); content = content } ∷ [])
+      ∙ append_assoc before (to_replicas n from content) (record { from = from; to = AtNode (record { replica = n; partition = from.partition }); content = content } ∷ [])
+      ∙ ap (λ ps. before ++ ps) (sym (map-range_with_len_more (λ r. record { from = from; to = AtNode (record { replica = r; partition = from.partition }); content = content }) 0 n n (omega arith)))
 
   -- to one partition more
-  pub each_more_sent : (before : List (Packet Args Row Reply)) (from : NodeId) (replica : ℕ) (content copy : Content Args Row Reply) (partitions : List ℕ) (i p : ℕ) (now after : List (Packet Args Row Reply)) → slice_get partitions i ≡ Some p
-      → now ≡ before ++ to_each from replica content (take i partitions) → copy ≡ content → after ≡ now ++ record { from = from; to = AtNode (record { replica = replica; partition = p }); content = copy } ∷ []
+  pub each_more_sent : (before : List (Packet Args Row Reply)) (from : NodeId) (replica : ℕ) (content : Content Args Row Reply) (partitions : List ℕ) (i p : ℕ) (now after : List (Packet Args Row Reply)) → slice_get partitions i ≡ Some p
+      → now ≡ before ++ to_each from replica content (take i partitions) → after ≡ now ++ record { from = from; to = AtNode (record { replica = replica; partition = p }); content = content } ∷ []
       → after ≡ before ++ to_each from replica content (take (i + 1) partitions)
-  each_more_sent before from replica content copy partitions i p now after at so_far same pushed =
+  each_more_sent before from replica content partitions i p now after at so_far pushed =
       pushed
-      ∙ (λ j. so_far j ++ record { from = from; to = AtNode (record { replica = replica; partition = p }); content = same j } ∷ [])
+      ∙ (λ j. so_far j ++ record { from = from; to = AtNode (record { replica = replica; partition = p }); content = content } ∷ [])
       ∙ append_assoc before (to_each from replica content (take i partitions)) (record { from = from; to = AtNode (record { replica = replica; partition = p }); content = content } ∷ [])
       ∙ ap (λ ps. before ++ ps) (sym (one_more partitions i at))
     where

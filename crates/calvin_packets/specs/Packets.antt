@@ -47,11 +47,15 @@ module _ {Args Row Reply : Type 0} where
   abbrev pub to_each : NodeId → ℕ → Content Args Row Reply → List ℕ → List (Packet Args Row Reply)
   to_each me replica content ps = map (λ p. record { from = me; to = AtNode (record { replica = replica; partition = p }); content = content }) ps
 
-  -- what a synod sends: to one or all replicas of its own group, ascending
+  -- the same to each replica of the own group, ascending
+  abbrev pub to_replicas : ℕ → NodeId → Content Args Row Reply → List (Packet Args Row Reply)
+  to_replicas size me content = map (λ r. record { from = me; to = AtNode (record { replica = r; partition = me.partition }); content = content }) (range_with_len 0 size)
+
+  -- what a synod sends: to one or all replicas of its own group
   abbrev pub synod_packets : ℕ → NodeId → Letters (Batch Args) → List (Packet Args Row Reply)
   synod_packets size me Silent = []
   synod_packets size me (ToOne r m) = record { from = me; to = AtNode (record { replica = r; partition = me.partition }); content = Synod m } ∷ []
-  synod_packets size me (ToAll m) = map (λ r. record { from = me; to = AtNode (record { replica = r; partition = me.partition }); content = Synod m }) (range_with_len 0 size)
+  synod_packets size me (ToAll m) = to_replicas size me (Synod m)
 
   -- a batch that is decided here is told to the other nodes of the own replica
   abbrev pub telling : ℕ → NodeId → Option (Slot × Batch Args) → List (Packet Args Row Reply)

@@ -1,14 +1,15 @@
 //! The packets of one event.
-ghost use Rattle.std.specs.Prelude.{◌≡◌, ◌++◌, ◌≤◌, length, take, IsOk, IsOkUnless, OnOk, OnErr};
+ghost use Rattle.std.specs.Prelude.{◌≡◌, ◌++◌, ◌≤◌, [], ◌∷◌, length, take, IsOk, IsOkUnless, OnOk, OnErr};
 ghost use Rattle.calvin_synod.specs.Cases as cases;
 ghost use Rattle.calvin_synod.specs.Deeds.{letters_of};
+ghost use Rattle.calvin_packets.specs.declared.packet.Address.TheVariants.{AtNode};
 ghost use Rattle.calvin_packets.specs.declared.packet.Content.TheVariants.{Reads};
-ghost use Rattle.calvin_packets.specs.Packets.{to_each, synod_packets, participants, warm_packets};
+ghost use Rattle.calvin_packets.specs.Packets.{to_each, to_replicas, synod_packets, participants, warm_packets};
 
 use crate::outbox::Outbox;
 use crate::packet::{Address, Content, Packet};
 use calvin_app::{App, View};
-use calvin_synod::{Mail, Message};
+use calvin_synod::Mail;
 use calvin_types::{Batch, Config, Fault, Few, MOST_KEYS, NodeId, Place, Sets, Txn};
 
 impl<A: App> Outbox<A> {
@@ -32,7 +33,8 @@ impl<A: App> Outbox<A> {
             }
             Mail::ToAll(message) => {
                 let sent = self.len();
-                match self.post_to_all(size, from, &message) {
+                let content = Content::Synod(message);
+                match self.post_to_all(size, from, &content) {
                     Ok(()) => Ok(()),
                     Err(fault) => {
                         self.take_back(sent);
@@ -43,25 +45,41 @@ impl<A: App> Outbox<A> {
         }
     }
 
-    /// Sends a message to each replica of the sender's group. Where it is refused, some may have been sent.
+    /// Sends a copy of this to a node. Refused with `OutOfMemory` where a growth was refused, or a batch can have no more
+    /// owners: then nothing is sent.
+    fn post_copy(
+        &mut self,
+        from: NodeId,
+        to: NodeId,
+        content: &Content<A::Args, A::Row, A::Reply>,
+    ) -> Result<(), Fault>
+        ensures sent { OnOk result (self.new.packets ≡ self.old.packets ++ record { from = from; to = AtNode to; content = content.now } ∷ []) }
+        ensures err { OnErr result (self.new.packets ≡ self.old.packets) }
+        ensures only { IsOkUnless result Fault.OutOfMemory }
+    {
+        let content = content.copy()?;
+        let to = Address::AtNode(to);
+        self.push(Packet { from, to, content })
+    }
+
+    /// Sends this to each replica of the sender's group. Where it is refused, some may have been sent.
     fn post_to_all(
         &mut self,
         size: u8,
         from: NodeId,
-        message: &Message<Batch<A::Args>>,
+        content: &Content<A::Args, A::Row, A::Reply>,
     ) -> Result<(), Fault>
-        ensures sent { OnOk result (self.new.packets ≡ self.old.packets ++ synod_packets size from (cases.ToAll message.now)) }
+        ensures sent { OnOk result (self.new.packets ≡ self.old.packets ++ to_replicas size from content.now) }
         ensures kept { take (length self.old.packets) self.new.packets ≡ self.old.packets }
         ensures longer { length self.old.packets ≤ length self.new.packets }
         ensures only { IsOkUnless result Fault.OutOfMemory }
     {
         for replica in 0..size {
-            let to = Address::AtNode(NodeId {
+            let to = NodeId {
                 replica,
                 partition: from.partition,
-            });
-            let content = Content::Synod(message.copy()?);
-            self.push(Packet { from, to, content })?;
+            };
+            self.post_copy(from, to, content)?;
         }
         Ok(())
     }
@@ -103,12 +121,11 @@ impl<A: App> Outbox<A> {
         ensures only { IsOkUnless result Fault.OutOfMemory }
     {
         for i in 0..partitions.len() {
-            let to = Address::AtNode(NodeId {
+            let to = NodeId {
                 replica,
                 partition: partitions.at(i),
-            });
-            let content = content.copy()?;
-            self.push(Packet { from, to, content })?;
+            };
+            self.post_copy(from, to, content)?;
         }
         Ok(())
     }

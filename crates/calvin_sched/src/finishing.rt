@@ -1,17 +1,10 @@
-//! What came of a job, compared with the job that is due, and the part of its writes that is stored here.
-ghost use Rattle.std.specs.Prelude.{◌≡◌, IsTrue, MatchBool};
+//! The part of what a job writes that is stored here.
+ghost use Rattle.std.specs.Prelude.{◌≡◌, IsTrue};
 ghost use Rattle.calvin_types.specs.Participants.{site};
 ghost use Rattle.calvin_sched.specs.Scheduling.{local_writes};
 
-use calvin_app::{App, Job, Writes};
+use calvin_app::{App, Writes};
 use calvin_types::Config;
-
-/// Whether two jobs of one place are the same request that sees the same rows.
-pub(crate) fn is_same_job<A: App>(one: &Job<A::Args, A::Row>, other: &Job<A::Args, A::Row>) -> bool
-    ensures { one.now.place ≡ other.now.place → MatchBool result (one.now ≡ other.now) (one.now ≡ other.now → ⊥) }
-{
-    one.txn == other.txn && one.view.is_same(&other.view)
-}
 
 /// Whether all writes have keys that are stored in a partition.
 pub(crate) fn are_local<A: App>(writes: &Writes<A::Row>, config: &Config, partition: u8) -> bool

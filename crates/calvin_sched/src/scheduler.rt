@@ -12,13 +12,13 @@ ghost use Rattle.calvin_sched.specs.Scheduling.{Turn as Turning, new_turn, opene
 ghost use Rattle.calvin_sched.specs.Steps as steps;
 ghost use Rattle.calvin_sched.specs.declared.phase.Phase.TheVariants.{Waiting};
 
-use crate::finishing::{is_same_job, local_part};
+use crate::finishing::local_part;
 use crate::phase::Phase;
 use crate::progress::{Progress, is_of_first};
 use crate::serving::Serving;
 use crate::turn::Turn;
 use crate::turns::Turns;
-use calvin_app::{Answer, App, Computed, Job, View};
+use calvin_app::{Answer, App, Computed, Job, View, is_same_job};
 use calvin_lock::Locks;
 use calvin_store::{Rows, Snapshot};
 use calvin_types::{Config, Fault, Place, Txn};

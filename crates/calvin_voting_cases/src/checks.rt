@@ -1,5 +1,5 @@
 //! How a test compares.
-use calvin_node_steps::Wrong;
+use calvin_lives::Wrong;
 use std::fmt::Debug;
 use std::process::Abort;
 

@@ -3,7 +3,8 @@
 //! are a majority.
 use crate::checks::{goes_on, holds, same};
 use calvin_app::KvRequest;
-use calvin_node_steps::{Life, SLOT, ScarceNodes, Sent, Step, X, at};
+use calvin_lives::{Life, ScarceNodes};
+use calvin_node_steps::{SLOT, Sent, Step, X, at};
 use calvin_packets::Content;
 use calvin_synod::Message;
 use calvin_types::{Ballot, Config, Fault, Place, Slot};

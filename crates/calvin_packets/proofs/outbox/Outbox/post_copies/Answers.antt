@@ -1,20 +1,15 @@
-use denote.Memory.{lone}
 use Rattle.std.proofs.Common.{◌≤◌, ◌++◌, length, take, ap, subst, ◌∙◌}
 use Rattle.std.proofs.lemmas.List.{take_all}
 use Rattle.std.proofs.Math.Seq.{take-append_seam}
 use Rattle.calvin_packets.specs.Packets.{to_each}
-use Rattle.calvin_packets.proofs.PacketSizes.{packet_of}
 use Rattle.calvin_packets.proofs.Sent.{each_more_sent}
 use Rattle.calvin_packets.proofs.outbox.Outbox.post_copies.Goals as goal
 
-pub push-requires : goal.push-requires
-push-requires g c = packet_of (lone g.row.A-Args.mir) (lone g.row.A-Row.mir) (lone g.row.A-Reply.mir) g.met.A.App.work_fits
-
-pub returns-in_err-push-clause-kept : goal.returns-in_err-push-clause-kept
-returns-in_err-push-clause-kept g c = ap (λ ps. take (length c.args.self.now.packets) ps) (c.in_err-push.ensures.err ∙ c.loop-i.invariant) ∙ take-append_seam c.args.self.now.packets _
+pub returns-in_err-post_copy-clause-kept : goal.returns-in_err-post_copy-clause-kept
+returns-in_err-post_copy-clause-kept g c = ap (λ ps. take (length c.args.self.now.packets) ps) (c.in_err-post_copy.ensures.err ∙ c.loop-i.invariant) ∙ take-append_seam c.args.self.now.packets _
 
 pub loop-i-preserved : goal.loop-i-preserved
-loop-i-preserved g c = each_more_sent _ _ _ _ _ _ _ _ _ _ c.at.ensures c.loop-i.invariant c.in_ok-content.ensures.ok c.in_ok-push.ensures.ok
+loop-i-preserved g c = each_more_sent _ _ _ _ _ _ _ _ _ c.at.ensures c.loop-i.invariant c.in_ok-post_copy.ensures.sent
 
 pub returns-clause-sent : goal.returns-clause-sent
 returns-clause-sent g c = c.loop-i.invariant ∙ ap (λ ps. c.args.self.now.packets ++ to_each c.args.from c.args.replica c.args.content.now ps) (take_all c.loop-i.i c.args.partitions.now (subst (λ n. n ≤ c.loop-i.i) c.len-i-end.ensures.len c.loop-i-test.false))

@@ -1,5 +1,5 @@
 use denote.Memory.{lone}
-use Rattle.std.proofs.Common.{◌<◌, ◌≤◌, ◌++◌, refl, ap, subst, arith, ◌∙◌}
+use Rattle.std.proofs.Common.{◌<◌, ◌≤◌, ◌++◌, ap, subst, arith, ◌∙◌}
 use Rattle.std.proofs.lemmas.List.{take_all}
 use Rattle.calvin_packets.specs.declared.packet.Content.TheVariants.{Reads}
 use Rattle.calvin_packets.specs.Packets.{to_each}
@@ -12,7 +12,7 @@ push_reserved-requires g c = (packet_of (lone g.row.A-Args.mir) (lone g.row.A-Ro
 
 pub loop-i-preserved : goal.loop-i-preserved
 loop-i-preserved g c = record {
-  sent = each_more_sent _ _ _ _ _ _ _ _ _ _ c.at.ensures c.loop-i.invariant.sent refl c.push_reserved.ensures.packets;
+  sent = each_more_sent _ _ _ _ _ _ _ _ _ c.at.ensures c.loop-i.invariant.sent c.push_reserved.ensures.packets;
   room = omega (arith, c.loop-i.invariant.room, c.push_reserved.ensures.room);
 }
 

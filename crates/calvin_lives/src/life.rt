@@ -1,8 +1,7 @@
 //! Lives of nodes in which what is refused for want of memory is tried again.
-use crate::nodes::Nodes;
 use crate::scarce::ScarceRows;
-use crate::step::{Step, number_of};
 use calvin_lock::QueueLocks;
+use calvin_node_steps::{Nodes, Step, number_of};
 use calvin_store::PlainRows;
 use calvin_types::{Config, Fault};
 use std::alloc::Global;

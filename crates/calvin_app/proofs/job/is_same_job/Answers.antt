@@ -1,6 +1,6 @@
 use Rattle.std.proofs.Common.{◌≡◌, MatchBool, sym, subst, ◌∙◌}
-use Rattle.calvin_sched.proofs.SameJob.{same_views, other_txn}
-use Rattle.calvin_sched.proofs.finishing.is_same_job.Goals as goal
+use Rattle.calvin_app.proofs.SameJob.{same_views, other_txn}
+use Rattle.calvin_app.proofs.job.is_same_job.Goals as goal
 
 pub returns-then-eq : goal.returns-then-eq
 returns-then-eq g c =
