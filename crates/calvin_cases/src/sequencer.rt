@@ -142,11 +142,18 @@ fn fill_again(rt: &impl Abort, alloc: Global, sequencer: &mut Sequencer<u64>) ->
     is_full(rt, alloc, sequencer, 5000)
 }
 
+/// One and then the other.
+fn fill_twice(rt: &impl Abort, alloc: Global, sequencer: &mut Sequencer<u64>) -> Result<(), Fault> {
+    fill(rt, alloc, sequencer)?;
+    fill_again(rt, alloc, sequencer)
+}
+
 #[test]
 fn what_counts_to_the_limit(rt: HostRuntime) -> Result<(), Fail> {
     let mut sequencer = Sequencer::new(rt.alloc(), 16);
-    fill(&rt, rt.alloc(), &mut sequencer)?;
-    fill_again(&rt, rt.alloc(), &mut sequencer)?;
+    let outcome = fill_twice(&rt, rt.alloc(), &mut sequencer);
+    drop(sequencer);
+    outcome?;
     Ok(())
 }
 
