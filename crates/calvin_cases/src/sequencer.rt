@@ -142,7 +142,7 @@ fn fill_again(rt: &impl Abort, alloc: Global, sequencer: &mut Sequencer<u64>) ->
     is_full(rt, alloc, sequencer, 5000)
 }
 
-/// One and then the other.
+/// The sequencer is filled, and filled again once what was closed is decided.
 fn fill_twice(rt: &impl Abort, alloc: Global, sequencer: &mut Sequencer<u64>) -> Result<(), Fault> {
     fill(rt, alloc, sequencer)?;
     fill_again(rt, alloc, sequencer)

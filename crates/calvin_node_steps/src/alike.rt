@@ -1,6 +1,7 @@
 //! Whether nodes and what they sent are alike.
 use crate::nodes::Numbers;
 use crate::shown::{Sent, is_same, key, place};
+use calvin_app::{Kv, is_same_job};
 use calvin_lock::Locks;
 use calvin_store::Rows;
 use calvin_types::{Place, Slot};
@@ -44,7 +45,7 @@ fn have_same_due<L: Locks + Drop, S: Rows<u64> + Drop>(
     at: Place,
 ) -> bool {
     match (one.job(at), other.job(at)) {
-        (Ok(due), Ok(other)) => due.txn == other.txn && due.view.is_same(&other.view),
+        (Ok(due), Ok(other)) => is_same_job::<Kv>(&due, &other),
         (Err(fault), Err(other)) => fault == other,
         (Ok(_), Err(_)) | (Err(_), Ok(_)) => false,
     }

@@ -1,8 +1,8 @@
 //! Requests, batches and packets, to be handed in and compared.
-use calvin_app::{Kv, KvReply, KvRequest};
-use calvin_packets::{Address, Content, Packet};
+use calvin_app::{KvReply, KvRequest};
+use calvin_packets::{Content, Packet};
 use calvin_synod::Message;
-use calvin_types::{Ballot, Batch, Fault, Key, KeySet, NodeId, Place, RequestId, Sets, Slot, Txn};
+use calvin_types::{Batch, Fault, Key, KeySet, Place, RequestId, Sets, Txn};
 use std::alloc::Global;
 
 /// What nodes that run numbers by key send.

@@ -1,9 +1,9 @@
 //! One node alone: a majority of one decides.
 use crate::checks::{check_letter, check_stands, holds, refuse, run, same};
-use calvin_app::{Answer, KvReply, KvRequest};
+use calvin_app::{Answer, KvReply};
 use calvin_lock::{ListLocks, Locks, QueueLocks};
 use calvin_node::Act;
-use calvin_node_steps::{Nodes, Step, X, key, number_of, place, prepare, request};
+use calvin_node_steps::{Nodes, Step, X, key, number_of, place, prepare};
 use calvin_packets::{Address, Content, Packet};
 use calvin_types::{Fault, NodeId, RequestId};
 use std::alloc::Global;
@@ -76,39 +76,6 @@ fn one_request<L: Locks + Drop>(rt: &impl Abort, alloc: Global) -> Result<(), Fa
 fn one_node_run(rt: HostRuntime) -> Result<(), Fail> {
     one_request::<ListLocks>(&rt, rt.alloc())?;
     one_request::<QueueLocks>(&rt, rt.alloc())?;
-    Ok(())
-}
-
-/// Events happen by their names, and each takes effect.
-fn act_all<L: Locks + Drop>(rt: &impl Abort, nodes: &mut Nodes<L>, acts: &[Act<KvRequest>]) {
-    for (i, act) in acts.iter().enumerate() {
-        same(rt, (i, number_of(nodes.act(0, act))), (i, 0));
-    }
-}
-
-#[test]
-fn one_node_run_by_names(rt: HostRuntime) -> Result<(), Fail> {
-    let mut nodes: Nodes<QueueLocks> = Nodes::new(rt.alloc(), 1, 1)?;
-    act_all(
-        &rt,
-        &mut nodes,
-        &[Act::Submit(request(1, X)), Act::Close, Act::Propose(0)],
-    );
-    nodes.settle(0);
-    act_all(
-        &rt,
-        &mut nodes,
-        &[
-            Act::Merge,
-            Act::Lock,
-            Act::Begin(place(0, 0)),
-            Act::Finish(place(0, 0)),
-        ],
-    );
-    check_reply(&rt, &nodes);
-    act_all(&rt, &mut nodes, &[Act::Snapshot(0), Act::Restart]);
-    check_stands(&rt, &nodes, 0, Some(0), 1);
-    nodes.end();
     Ok(())
 }
 
