@@ -1,5 +1,6 @@
 """Draws scripts of epochs of both applications. Requests declare no sets, the sets that they need then, or sets that are stale
-or wrong in some other way; keys are few and numbers are often at their limits, so that every answer comes."""
+or wrong in some other way; keys are few and numbers are often at their limits, so that every answer comes. Half of the scripts
+weave nothing; of the others most weave some of their epochs."""
 
 import plain_serial
 
@@ -80,19 +81,33 @@ def drawn_txn(draw, app, run, number):
     return txn
 
 
+def with_weave(draw, script, epochs):
+    """The script, in half of the cases with a first woven epoch: one of the first so many, the next one or a late one."""
+    if draw.randrange(2):
+        return script
+    return {**script, "woven_from": draw.choice([0, 0, 1, draw.randrange(epochs + 1), 2**48 - 1])}
+
+
+def drawn_epoch(draw, app, run, groups, woven):
+    """The batches of an epoch, whose requests are drawn and answered in its order."""
+    run.begin_epoch()
+    batches = [[None] * draw.randrange(MOST_REQUESTS[app]) for _ in groups]
+    places = [[(batch, n) for n in range(len(batch))] for batch in batches]
+    for batch, n in plain_serial.in_order(places, woven):
+        batch[n] = drawn_txn(draw, app, run, n)
+        run.answer(batch[n])
+    return [{"group": group, "txns": batch} for group, batch in zip(groups, batches)]
+
+
 def drawn_script(draw, app, scouts, partitions=None):
     """A script of so many partitions, or of 1 to 16, whose rows are kept along, so that requests can declare the sets that they
     need."""
     partitions, run, epochs = partitions or draw.randrange(1, 17), plain_serial.Run(app, scouts), []
-    for _ in range(draw.randrange(2, 7) if scouts else draw.randrange(1, 5)):
-        batches = []
-        run.begin_epoch()
-        for group in sorted(draw.sample(range(partitions), min(partitions, draw.randrange(1, 4)))):
-            txns = []
-            for _ in range(draw.randrange(MOST_REQUESTS[app])):
-                txns.append(drawn_txn(draw, app, run, len(txns)))
-                run.answer(txns[-1])
-            batches.append({"group": group, "txns": txns})
+    wanted = draw.randrange(2, 7) if scouts else draw.randrange(1, 5)
+    script = with_weave(draw, {"partitions": partitions, "app": app}, wanted)
+    for number in range(wanted):
+        groups = sorted(draw.sample(range(partitions), min(partitions, draw.randrange(1, 4))))
+        batches = drawn_epoch(draw, app, run, groups, plain_serial.is_woven(script.get("woven_from"), number))
         draw.shuffle(batches)
         epochs.append(batches)
-    return {"partitions": partitions, "app": app, "epochs": epochs}
+    return {**script, "epochs": epochs}

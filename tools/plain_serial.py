@@ -137,6 +137,17 @@ class Stock:
 APPS = {"kv": Kv, "stock": Stock}
 
 
+def is_woven(woven_from, epoch):
+    return woven_from is not None and woven_from <= epoch
+
+
+def in_order(batches, woven):
+    """The requests of an epoch's batches, which are listed by ascending group: batch after batch, or woven, by number in the
+    batch and then by group."""
+    placed = [(n, group, txn) for group, batch in enumerate(batches) for n, txn in enumerate(batch)]
+    return [txn for _, _, txn in (sorted(placed, key=lambda it: it[:2]) if woven else placed)]
+
+
 MOST_LOOKS = 16
 
 
@@ -195,11 +206,11 @@ class Run:
         """Whether its sets are others than the first ones because they were scouted."""
         return "reads" not in txn and self.declared(txn) != self.first_sets(txn["op"])
 
-    def epoch(self, number, batches):
+    def epoch(self, number, batches, woven):
         """The lines of an epoch."""
         self.begin_epoch()
         listed = sorted(batches, key=lambda batch: batch["group"])
-        for n, txn in enumerate(txn for batch in listed for txn in batch["txns"]):
+        for n, txn in enumerate(in_order([batch["txns"] for batch in listed], woven)):
             answer = self.answer(txn)
             word = answer.split(" ", maxsplit=1)[0]
             self.counts[f"scouted {word}" if self.is_found(txn) else word] += 1
@@ -208,7 +219,8 @@ class Run:
 
 def text_of(script, scouts=False):
     """What the program has to print for a script of the right form, with `--scout` where it scouts."""
-    run = Run(script["app"], scouts)
-    lines = [line for number, batches in enumerate(script["epochs"]) for line in run.epoch(number, batches)]
+    run, woven_from = Run(script["app"], scouts), script.get("woven_from")
+    epochs = enumerate(script["epochs"])
+    lines = [line for number, batches in epochs for line in run.epoch(number, batches, is_woven(woven_from, number))]
     last = len(script["epochs"]) - 1
     return "".join(lines) + (f"finished {last}\n" if last >= 0 else "finished none\n"), run.counts

@@ -33,9 +33,10 @@ class Node:
         self.loaded = -1 if self.kept is None else self.kept[0]
         self.rows = {} if self.kept is None else dict(self.kept[1])
         self.seen, self.attempts, self.counted = 0, {}, set()
-        self.queue, self.closed, self.decided = [], {}, set()
+        self.queue, self.held_back, self.closed, self.decided = [], [], {}, set()
         self.held, self.merged, self.order, self.pending = {}, self.loaded + 1, {}, []
         self.state, self.served, self.came = {}, {}, {}
+        self.point, self.cold = None, set()
 
     def next_epoch(self):
         epoch = self.loaded + 1
@@ -47,8 +48,9 @@ class Node:
 class World:
     """All nodes, and every packet that was ever sent: its sender, whom it is for (None: a client), and what it says."""
 
-    def __init__(self, app, partitions, replicas):
+    def __init__(self, app, partitions, replicas, delay=0, woven_from=None):
         self.app, self.partitions, self.replicas = plain_serial.APPS[app], partitions, replicas
+        self.delay, self.woven_from = delay, woven_from
         self.packets = []
         self.nodes = {(r, p): Node(r, p) for r in range(replicas) for p in range(partitions)}
 
@@ -83,15 +85,33 @@ class World:
 
     # ---- the sequencer
 
-    def submit(self, node, txn):
+    def take(self, node, txn):
+        """The sequencer takes the request, or refuses it."""
         undecided = sum(len(batch) for epoch, batch in node.closed.items() if epoch not in node.decided)
-        need(len(node.queue) + undecided < MOST_QUEUED, 30)
+        need(len(node.queue) + len(node.held_back) + undecided < MOST_QUEUED, 30)
         need(txn["reads"] or txn["writes"], 31)
         need(1 <= txn["attempt"] <= 8, 32)
+
+    def submit(self, node, txn):
+        self.take(node, txn)
         node.queue.append(txn)
+
+    def submitcold(self, node, txn):
+        self.take(node, txn)
+        node.held_back.append((txn, 0))
+        self.join(node)
+        for p in self.participants(txn):
+            self.send(node, (node.r, p), "warm", self.local(txn["reads"] + txn["writes"], p))
+
+    def join(self, node):
+        """What was held back for long enough joins the queue's end."""
+        node.queue += [txn for txn, closings in node.held_back if closings >= self.delay]
+        node.held_back = [(txn, closings) for txn, closings in node.held_back if closings < self.delay]
 
     def close(self, node):
         node.closed[node.next_epoch()], node.queue = node.queue[:MOST_BATCH], node.queue[MOST_BATCH:]
+        node.held_back = [(txn, closings + 1) for txn, closings in node.held_back]
+        self.join(node)
 
     def hold(self, node, slot, batch):
         epoch, group = slot
@@ -175,7 +195,8 @@ class World:
     def merge(self, node):
         epoch = node.merged
         need(all((epoch, group) in node.held for group in range(self.partitions)), 34)
-        for n, txn in enumerate(txn for group in range(self.partitions) for txn in node.held[epoch, group]):
+        batches = [node.held[epoch, group] for group in range(self.partitions)]
+        for n, txn in enumerate(plain_serial.in_order(batches, plain_serial.is_woven(self.woven_from, epoch))):
             node.order[epoch, n] = txn
             node.pending.append((epoch, n))
         node.merged += 1
@@ -240,9 +261,25 @@ class World:
         answer = "changed"
         if self.app.needs(txn["op"], view.get) == (txn["reads"], txn["writes"]):
             answer, written = self.app.run(txn["op"], view.get)
-            node.rows |= {key: row for key, row in written.items() if self.local([key], node.p)}
+            self.put(node, place, {key: row for key, row in written.items() if self.local([key], node.p)})
         node.state[place] = "done"
         self.send(node, None, "reply", place, txn, answer)
+
+    # ---- rows
+
+    def put(self, node, place, written):
+        node.rows |= written
+        node.cold -= set(written)
+        if node.point and place[0] <= node.point[0]:
+            node.point[1].update(written)
+
+    def cool(self, node, key):
+        need(node.point is None, 54)
+        need(key in node.rows and key not in node.cold, 55)
+        node.cold.add(key)
+
+    def on_warm(self, node, _sender, keys):
+        node.cold -= set(keys)
 
     # ---- snapshots
 
@@ -256,10 +293,26 @@ class World:
     def stands_at(self, node):
         return max((epoch for epoch in range(node.merged) if self.stands(node, epoch)), default=None)
 
+    def mark(self, node, epoch):
+        need(epoch >= node.loaded and all(place[0] <= epoch for place, state in node.state.items() if state == "done"), 53)
+        need(node.point is None, 54)
+        node.point = (epoch, dict(node.rows))
+
+    def is_done_to(self, node, epoch):
+        """Whether the epochs up to this one are merged, and their requests done here."""
+        return epoch < node.merged and all(
+            node.state.get(place) == "done"
+            for place, txn in node.order.items()
+            if place[0] <= epoch and node.p in self.participants(txn)
+        )
+
     def snapshot(self, node, epoch):
-        need(self.stands(node, epoch), 50)
+        marked = node.point is not None and node.point[0] == epoch
+        need(self.is_done_to(node, epoch) if marked else self.stands(node, epoch), 50)
         need(node.kept is None or node.kept[0] < epoch, 51)
-        node.kept = (epoch, dict(node.rows))
+        node.kept = (epoch, dict(node.point[1] if marked else node.rows))
+        if node.point and node.point[0] <= epoch:
+            node.point = None
 
     def restart(self, node):
         node.lose()
@@ -273,7 +326,14 @@ def whole(app, txn):
 
 def taken(app, event):
     """The event of a line of a script."""
-    return [*event[:3], whole(app, event[3])] if event[0] == "submit" else event
+    if event[0] in ("submit", "submitcold"):
+        return [*event[:3], whole(app, event[3])]
+    return [*event[:3], tuple(event[3])] if event[0] == "cool" else event
+
+
+def opened(script):
+    """The world that a script is run on, before its first event."""
+    return World(script["app"], script["partitions"], script["replicas"], script.get("delay", 0), script.get("woven_from"))
 
 
 def ending(world):
@@ -303,7 +363,7 @@ def outcomes(world, app, events):
 
 def lines_of(script):
     """What `calvin check` has to print for a script of the right form, and which of these lines it may expect."""
-    world = World(script["app"], script["partitions"], script["replicas"])
+    world = opened(script)
     told = list(outcomes(world, script["app"], script["events"]))
     nodes, answers = ending(world)
     return told + nodes + answers, answers

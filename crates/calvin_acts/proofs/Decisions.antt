@@ -20,13 +20,13 @@ use Rattle.calvin_acts.proofs.Settling.{running}
 
 -- a merge that made room, and then holds one more batch
 pub now_held : {Args : Type 0} (m ready held : Merging Args) (slot : Slot) (batch : Batch Args) → ready ≡ record m { room = ready.room } → held ≡ with_batch slot batch ready → contains_key m.held slot ≡ false
-    → (held.held ≡ insert m.held slot batch) × (held.next ≡ m.next) × (held.partitions ≡ m.partitions)
+    → (held.held ≡ insert m.held slot batch) × (held.next ≡ m.next) × (held.config ≡ m.config)
 now_held m ready held slot batch made is free =
     let whole : held ≡ record m { held = insert m.held slot batch; room = ready.room - 1 } =
     is
     ∙ (λ i. with_batch slot batch (made i))
     ∙ (λ i. cond (free i) (record m { room = ready.room }) (record m { held = insert m.held slot batch; room = ready.room - 1 })) in
-    (ap (λ k. k.held) whole, ap (λ k. k.next) whole, ap (λ k. k.partitions) whole)
+    (ap (λ k. k.held) whole, ap (λ k. k.next) whole, ap (λ k. k.config) whole)
 
 module _ {Args Row : Type 0} (Reply : Type 0) (c : Config) (x : NodeState Args Row) (me : ℕ) (from : ℕ) (slot : Slot) (ballot : Ballot) (batch : Batch Args)
     (new_vote : knows x.synod.learner from slot ballot ≡ false) (full : completes c.replicas x.synod.learner slot ballot ≡ true) (sent : List (Packet Args Row Reply)) where

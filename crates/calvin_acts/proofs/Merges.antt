@@ -11,9 +11,10 @@ use Rattle.calvin_types.specs.declared.place.Place.{Place}
 use Rattle.calvin_types.specs.Orders.{Order}
 use Rattle.calvin_types.specs.Participants.{site, has_local_key}
 use Rattle.calvin_types.specs.Deeds.{Refuses, Does, Did}
-use Rattle.calvin_order.specs.Configs.{Config, is_woven, woven}
+use Rattle.calvin_order.specs.Configs.{Config}
 use Rattle.calvin_order.specs.Merged.{Batch, joined, numbered}
 use Rattle.calvin_order.specs.Merging.{Merging, HoldsAll, IsComplete, batch_at}
+use Rattle.calvin_order.proofs.Joining.{length-merged}
 use Rattle.calvin_sched.specs.Keeping.{Scheduled}
 use Rattle.calvin_sched.specs.Progress.{left, merge}
 use Rattle.calvin_sched.specs.Scheduling.{Scheduling, is_done}
@@ -58,10 +59,6 @@ passed (Ok done) m after whole next missing only = next
 passed (Err f) m after whole next missing only = absurd (missing (ap Err only) whole)
 
 -- ---- the requests of an epoch
-
-pub some_numbered : {Args : Type 0} (e n : ℕ) (batch : Batch Args) → 0 < length batch → is_some_request (numbered e n batch) ≡ true
-some_numbered e n [] some = absurd (omega (arith, some))
-some_numbered e n (t ∷ ts) some = refl
 
 pub some_request : {Args : Type 0} (order : Order Args) → 0 < length order → is_some_request order ≡ true
 some_request [] some = absurd (omega (arith, some))
@@ -115,10 +112,10 @@ module _ {Args Row : Type 0} (Reply : Type 0) (c : Config) (l : Layer Args) (r :
 
   -- nothing is given of the next epoch: a batch of it is missing, or there was no room for its requests
   pub not_given : {T : Type 0} (f : Fault) → (f ≡ NotComplete) ⊎ ((f ≡ OutOfMemory) × (0 < length (joined (batch_at l.held) l.merged_epochs c.partitions))) → (◌≡◌ {A = Result T Fault} (Err f) (Err NotComplete) → HoldsAll l.held l.merged_epochs c.partitions → ⊥) → ((HoldsAll l.held l.merged_epochs c.partitions → ⊥) → ◌≡◌ {A = Result T Fault} (Err f) (Err NotComplete))
-      → c.woven_from ≡ None → NodeDid {Reply = Reply} (is_some_request next_order) (Err f) (acting.merge c at_first) (running c at_first) (running c at_first) [] []
-  not_given f (inl is) missing else whole = subst (λ g. NodeDid {Reply = Reply} (is_some_request next_order) (Err g) (acting.merge c at_first) (running c at_first) (running c at_first) [] []) (sym is) (refused (missing (ap Err is)) (is_some_request next_order))
-  not_given f (inr both) missing else whole = subst (λ g. NodeDid {Reply = Reply} (is_some_request next_order) (Err g) (acting.merge c at_first) (running c at_first) (running c at_first) [] []) (sym both.0) (wanting (go (acting.is_complete c at_first) refl)
-      (ap (λ w. is_some_request (numbered l.merged_epochs 0 (cond (is_woven w l.merged_epochs) (woven (batch_at l.held) l.merged_epochs c.partitions) (joined (batch_at l.held) l.merged_epochs c.partitions)))) whole ∙ some_numbered l.merged_epochs 0 (joined (batch_at l.held) l.merged_epochs c.partitions) both.1))
+      → NodeDid {Reply = Reply} (is_some_request next_order) (Err f) (acting.merge c at_first) (running c at_first) (running c at_first) [] []
+  not_given f (inl is) missing else = subst (λ g. NodeDid {Reply = Reply} (is_some_request next_order) (Err g) (acting.merge c at_first) (running c at_first) (running c at_first) [] []) (sym is) (refused (missing (ap Err is)) (is_some_request next_order))
+  not_given f (inr both) missing else = subst (λ g. NodeDid {Reply = Reply} (is_some_request next_order) (Err g) (acting.merge c at_first) (running c at_first) (running c at_first) [] []) (sym both.0) (wanting (go (acting.is_complete c at_first) refl)
+      (some_request next_order (let all = length-merged c (batch_at l.held) l.merged_epochs in let some = both.1 in omega (arith, all, some))))
     where
       go : (b : Bool) → acting.is_complete c at_first ≡ b → acting.is_complete c at_first ≡ true
       go true is = is

@@ -5,13 +5,14 @@ use Rattle.std.proofs.lemmas.List.{append-nil}
 use Rattle.std.specs.List.{filter}
 use Rattle.std.specs.Prelude.{nat_le, is_some}
 use Rattle.std.specs.Option.{option_copied}
+use Rattle.calvin_types.specs.declared.config.Config.{Config as TheConfig}
 use Rattle.calvin_types.specs.declared.fault.Fault.{Fault}
 use Rattle.calvin_types.specs.declared.fault.Fault.TheVariants.{Older}
 use Rattle.calvin_types.specs.declared.place.Place.{Place}
 use Rattle.calvin_types.specs.Orders.{Order}
 use Rattle.calvin_types.specs.Participants.{site}
 use Rattle.calvin_types.specs.Deeds.{Deed, Refuses, Does, Did}
-use Rattle.calvin_order.specs.Configs.{Config}
+use Rattle.calvin_order.specs.Configs.{Config, config_of}
 use Rattle.calvin_order.specs.Sequencing.{Sequencing}
 use Rattle.calvin_app.specs.Rows.{Rows}
 use Rattle.calvin_sched.specs.Keeping.{Scheduled, takes_effect}
@@ -23,6 +24,10 @@ use Rattle.calvin_acts.specs.Handling.{NodeDeed, by_scheduler}
 use Rattle.calvin_acts.specs.Acting.{by_sequencer, lock_by, snapshot_by}
 use Rattle.calvin_acts.specs.Running.{Running, NodeDid}
 use Rattle.calvin_acts.specs.Layers.{Layer, IsOf, IsNode}
+
+-- what the store of a node is opened with in code, with its sequencer's delay
+abbrev pub config_at : TheConfig → Bool → Bool → ℕ → Config
+config_at c points cold delay = record (config_of c points cold) { delay = delay }
 
 -- what passes once passes again
 pub filter_again : {A : Type 0} (p : A → Bool) (xs : List A) → filter p (filter p xs) ≡ filter p xs

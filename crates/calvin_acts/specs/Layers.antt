@@ -2,24 +2,26 @@
 -- What a group agrees on stands in the first one; what that layer does is said of every node that has it.
 --     Layer Args      a sequencing layer: what it is opened with, the node's name, and its data
 --     Rest Args Row      what else a node has: what its rows can do, the requests to admit, its scheduler and its last snapshot
---     opened_layer partitions replicas delay id synod epochs      a layer that is opened with a synod, after so many epochs
---     layer_of partitions replicas id member sequencer merge      a layer with these parts
+--     opened_layer config id synod epochs      a layer that is opened with a synod, after so many epochs
+--     layer_of config id member sequencer merge      a layer with these parts, opened with this in code
 --     rest_of points cold pending scheduler kept      the rest of a node with these parts
 --     state_of l r      the data of the node that has both; of the places that are due, those that aren't done
 --     node_of l r      the node: these data, and what its store is opened with
---     IsLayer partitions replicas id member merge      the parts of a layer are of its store and its name
+--     IsLayer config id member merge      the parts of a layer are of its store and its name
 --     IsOf old new      a layer is of the same node as another, in a store of as many partitions, and has merged as many epochs
 --     IsNode l scheduler      the scheduler of a node is of its layer
 --     LayerDid grows result deed old new sent all      what a call made of each node with the layer, and of what it sent, by the deed
 use Rattle.std.specs.Prelude.{◌≡◌, ℕ, Bool, List, Option, Result}
 use Rattle.std.specs.FinMap.{empty}
 use Rattle.calvin_types.specs.declared.fault.Fault.{Fault}
+use Rattle.calvin_types.specs.declared.config.Config.{Config as TheConfig}
 use Rattle.calvin_types.specs.declared.place.NodeId.{NodeId}
 use Rattle.calvin_types.specs.Orders.{Order}
 use Rattle.calvin_types.specs.Participants.{site}
 use Rattle.calvin_app.specs.Rows.{Rows}
 use Rattle.calvin_synod.specs.Cases.{Replica}
 use Rattle.calvin_synod.specs.Deeds.{MemberState}
+use Rattle.calvin_order.specs.Configs.{Config, order_config, over}
 use Rattle.calvin_order.specs.Keeping.{Sequenced}
 use Rattle.calvin_order.specs.Merged.{Batch}
 use Rattle.calvin_order.specs.Merging.{Batches, Merging}
@@ -29,12 +31,11 @@ use Rattle.calvin_sched.specs.Progress.{left}
 use Rattle.calvin_packets.specs.declared.packet.Packet.{Packet}
 use Rattle.calvin_acts.specs.NodeStates.{NodeState}
 use Rattle.calvin_acts.specs.Handling.{NodeDeed}
-use Rattle.calvin_acts.specs.Running.{Running, NodeDid, config_of, kept_epochs, kept_rows}
+use Rattle.calvin_acts.specs.Running.{Running, NodeDid, kept_epochs, kept_rows}
 
 pub record Layer (Args : Type 0) : Type 0 where
-  pub partitions : ℕ
-  pub replicas : ℕ
-  pub delay : ℕ
+  -- of the rows it says nothing
+  pub config : Config
   pub id : NodeId
   pub synod : Replica (Batch Args)
   pub sequencer : Sequencing Args
@@ -51,11 +52,9 @@ pub record Rest (Args Row : Type 0) : Type 0 where
   pub kept : Option (ℕ × Rows Row)
 
 module _ {Args : Type 0} where
-  abbrev pub opened_layer : ℕ → ℕ → ℕ → NodeId → Replica (Batch Args) → ℕ → Layer Args
-  opened_layer partitions replicas delay id synod epochs = record {
-    partitions = partitions;
-    replicas = replicas;
-    delay = delay;
+  abbrev pub opened_layer : Config → NodeId → Replica (Batch Args) → ℕ → Layer Args
+  opened_layer config id synod epochs = record {
+    config = config;
     id = id;
     synod = synod;
     sequencer = sequencing_from epochs;
@@ -63,11 +62,9 @@ module _ {Args : Type 0} where
     merged_epochs = epochs;
   }
 
-  abbrev pub layer_of : ℕ → ℕ → NodeId → MemberState (Batch Args) → Sequenced Args → Merging Args → Layer Args
-  layer_of partitions replicas id member sequencer merge = record {
-    partitions = partitions;
-    replicas = replicas;
-    delay = sequencer.delay;
+  abbrev pub layer_of : TheConfig → NodeId → MemberState (Batch Args) → Sequenced Args → Merging Args → Layer Args
+  layer_of config id member sequencer merge = record {
+    config = record (order_config config) { delay = sequencer.delay };
     id = id;
     synod = member.replica;
     sequencer = sequencer.sequencing;
@@ -76,14 +73,14 @@ module _ {Args : Type 0} where
   }
 
   pub record IsOf (old new : Layer Args) : Type 0 where
-    pub partitions : new.partitions ≡ old.partitions
+    pub partitions : new.config.partitions ≡ old.config.partitions
     pub id : new.id ≡ old.id
     pub merged : new.merged_epochs ≡ old.merged_epochs
 
-  pub record IsLayer (partitions replicas : ℕ) (id : NodeId) (member : MemberState (Batch Args)) (merge : Merging Args) : Type 0 where
-    pub group_size : member.size ≡ replicas
+  pub record IsLayer (config : TheConfig) (id : NodeId) (member : MemberState (Batch Args)) (merge : Merging Args) : Type 0 where
+    pub group_size : member.size ≡ config.replicas
     pub replica : member.me ≡ id.replica
-    pub groups : merge.partitions ≡ partitions
+    pub groups : merge.config ≡ order_config config
 
 module _ {Args Row : Type 0} where
   abbrev pub rest_of : Bool → Bool → Order Args → Scheduled Args Row → Option (ℕ × Rows Row) → Rest Args Row
@@ -104,10 +101,10 @@ module _ {Args Row : Type 0} where
   }
 
   abbrev pub node_of : Layer Args → Rest Args Row → Running Args Row
-  node_of l r = record { config = config_of l.partitions l.replicas r.points r.cold l.delay; state = state_of l r }
+  node_of l r = record { config = over l.config r.points r.cold; state = state_of l r }
 
   pub record IsNode (l : Layer Args) (scheduler : Scheduled Args Row) : Type 0 where
-    pub here : scheduler.here ≡ site l.partitions l.id.partition
+    pub here : scheduler.here ≡ site l.config.partitions l.id.partition
     -- the scheduler was told of each epoch that is merged
     pub merged : scheduler.merged ≡ l.merged_epochs
 

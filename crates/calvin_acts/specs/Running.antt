@@ -4,7 +4,6 @@
 --     settled x      the data with those of the places that are due that aren't done
 --     kept_epochs kept      how many epochs the last snapshot has
 --     kept_rows kept      its rows
---     config_of partitions replicas points cold delay      what a store is opened with, in which no batch is woven
 --     NodeFinished m job result old new sent all      what a job that was run made of a node, and of what it sent
 --     NodeDid grows result deed old new sent all      what a call made of a node, and of what it sent, by the deed
 use Rattle.std.specs.Prelude.{◌≡◌, ◌⊎◌, ℕ, suc, ◌++◌, Bool, true, List, Option, Some, None, Result, Ok, Err}
@@ -40,10 +39,6 @@ module _ {Row : Type 0} where
   abbrev pub kept_rows : Option (ℕ × Rows Row) → Rows Row
   kept_rows None = empty
   kept_rows (Some kept) = kept.1
-
--- what a store of so many partitions and replicas is opened with, in which no batch is woven
-abbrev pub config_of : ℕ → ℕ → Bool → Bool → ℕ → Config
-config_of partitions replicas points cold delay = record { replicas = replicas; partitions = partitions; points = points; cold = cold; delay = delay; woven_from = None }
 
 module _ {Args Row Reply : Type 0} where
   -- the deed takes effect: the node is what it leaves, settled, and its packets are sent after the others; or it is its refusal, and nothing changed; or memory ran out, where something grows, and nothing changed

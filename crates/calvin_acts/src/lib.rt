@@ -12,6 +12,6 @@ mod waiting;
 pub use act::Act;
 pub use deciding::{keep, make_room};
 pub use law::refuses;
-pub use opening::{first_epoch, has_kept, scheduler_from};
+pub use opening::{first_epoch, has_kept, is_order_changed, scheduler_from};
 pub use serving::post_served;
 pub use waiting::{append_merged, reserve_merged};

@@ -1,10 +1,11 @@
-//! What a node is opened with: the scheduler that goes on from a snapshot, the epoch after it, and whether one of an epoch is
-//! kept already.
+//! What a node is opened with: the scheduler that goes on from a snapshot, the epoch after it, whether one of an epoch is kept
+//! already, and whether its epochs are ordered as they were.
 ghost use Rattle.std.specs.Prelude.{◌≡◌, ◌+◌, ◌^◌, ◌≤◌, [], true, IfOk, IfErr, MatchBool};
 ghost use Rattle.std.specs.Option.{unwrap_or};
 ghost use Rattle.calvin_types.specs.Participants.{site};
 ghost use Rattle.calvin_order.specs.Merged.{end_of};
 ghost use Rattle.calvin_sched.specs.Scheduling.{opened};
+ghost use Rattle.calvin_acts.specs.Durables.{is_below, is_order_changed};
 ghost use Rattle.calvin_acts.specs.Growing.{has_snapshot};
 ghost use Rattle.calvin_acts.specs.Running.{kept_epochs, kept_rows};
 
@@ -33,6 +34,27 @@ pub fn has_kept<Row>(kept: &Option<(u64, Snapshot<Row>)>, epoch: u64) -> bool
         Some((last, _)) => epoch <= *last,
         None => false,
     }
+}
+
+/// Whether a first woven epoch, if there is one, is an epoch of the last snapshot.
+fn is_kept_woven<Row>(first: Option<u64>, kept: &Option<(u64, Snapshot<Row>)>) -> bool
+    ensures { result ≡ is_below first (kept_epochs kept.now) }
+{
+    match (first, kept) {
+        (Some(first), Some((last, _))) => first <= *last,
+        _ => false,
+    }
+}
+
+/// Whether some epoch of the last snapshot is ordered otherwise under one of these first woven epochs than under the other.
+pub fn is_order_changed<Row>(
+    now: Option<u64>,
+    before: Option<u64>,
+    kept: &Option<(u64, Snapshot<Row>)>,
+) -> bool
+    ensures { result ≡ is_order_changed now before (kept_epochs kept.now) }
+{
+    now != before && (is_kept_woven(now, kept) || is_kept_woven(before, kept))
 }
 
 /// A scheduler that goes on from the last snapshot, or begins on no rows where there is none. Refused with `OutOfMemory`

@@ -19,12 +19,12 @@ use Rattle.calvin_types.proofs.Risings.{less}
 use Rattle.calvin_app.specs.Entries.{rising}
 use Rattle.calvin_app.specs.EntryPlaces.{IsMissingAt}
 
-holds : (b : Bool) → T b → b ≡ true
+pub holds : (b : Bool) → T b → b ≡ true
 holds true h = refl
 holds false h = absurd h
 
 -- a key that is below all entries is below each
-below_at : {Row : Type 0} (a : Key) (es : List (Key × Row)) (i : ℕ) (e : Key × Row) → below_all key_cmp a es ≡ true → slice_get es i ≡ Some e → key_cmp a e.0 ≡ Less
+pub below_at : {Row : Type 0} (a : Key) (es : List (Key × Row)) (i : ℕ) (e : Key × Row) → below_all key_cmp a es ≡ true → slice_get es i ≡ Some e → key_cmp a e.0 ≡ Less
 below_at {Row} a [] i e h here = absurd (cc)
 below_at {Row} a (x ∷ es) zero e h here = let same : x ≡ e = cc in ap (λ (y : Key × Row). key_cmp a y.0) (sym same) ∙ less _ (first _ _ h)
 below_at {Row} a (x ∷ es) (suc i) e h here = below_at a es i e (second _ _ h) here

@@ -1,3 +1,4 @@
+pub mod Apart
 pub mod Asked
 pub mod Distinct
 pub mod Ends
@@ -5,6 +6,7 @@ pub mod Fresh
 pub mod Puts
 pub mod Results
 pub mod RowTables
+pub mod Runs
 mod SameJob
 pub mod StoreLaws
 pub mod Values

@@ -1,7 +1,7 @@
 -- What a keeper knows of the rows of its partition (Thomson et al. 2012, sections 3, 4 and 5). A keeper that holds all
 -- rows in memory and opens no point has `loaded rows`. Points are for a keeper that is copied while requests go on, cold
--- keys for one that moves rows to a second, cold table (section 4: rows on disk): no keeper has them yet, and what they
--- mean is said here once for all. What a key reads is the same whether it is cold or not.
+-- keys for one that moves rows to a second, cold table (section 4: rows on disk). What a key reads is the same whether it is
+-- cold or not.
 use Rattle.std.specs.Prelude.{Bool, ◌&&◌, not, List, Option, Some, None, is_some, if◌then◌else◌}
 use Rattle.std.specs.FinMap.{empty, get, insert, retain_keys}
 use Rattle.std.specs.FinSet.{FinSet}

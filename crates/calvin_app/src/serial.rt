@@ -1,9 +1,11 @@
 //! Requests run one at a time, on one undivided map: what every other run of them has to agree with (Thomson et al.
 //! 2012, section 3: the order of requests is fixed first, and execution is equivalent to running them serially in it).
 ghost use Rattle.calvin_app.specs.declared.answer.Answer.TheVariants.{Changed, Reply};
-ghost use Rattle.std.specs.Prelude.{◌≡◌, ◌≢◌, IfOk, OnOk, OnErr, IsOkUnless, [], false, IsOk};
+ghost use Rattle.std.specs.Prelude.{◌≡◌, ◌≢◌, ◌↔◌, ◌⊎◌, IfOk, IfErr, OnOk, OnErr, IsOkUnless, [], false, IsOk, IsErrOf};
 ghost use Rattle.std.specs.FinMap as map;
+ghost use Rattle.calvin_types.specs.Keys.{are_distinct};
 ghost use Rattle.calvin_app.specs.Rows.{view, overwritten};
+ghost use Rattle.calvin_app.specs.Writing.{keys_of};
 ghost use Rattle.calvin_app.specs.Serial.{nameless, answer_one, after_one, writes_on};
 
 use crate::answer::Answer;
@@ -11,7 +13,7 @@ use crate::app::App;
 use crate::table::Table;
 use crate::view::View;
 use crate::writes::Writes;
-use calvin_types::{Fault, KeySet, Sets, Txn};
+use calvin_types::{Fault, Key, KeySet, Sets, Txn};
 use std::alloc::Global;
 use std::marker::Model;
 
@@ -32,6 +34,20 @@ impl<A: App> Model for Serial<A> {
     ghost coded = { map.code coded_key A.Row.code };
 
     ghost view = { λ s. s.rows };
+}
+
+impl<A: App + Drop> Serial<A> {
+    /// The application on these rows. Refused with `Repeated` where a key comes twice, and else for want of memory.
+    pub fn from_rows(alloc: Global, app: A, rows: &[(Key, A::Row)]) -> Result<Serial<A>, Fault>
+        ensures ok { IfOk result (λ all. all ≡ overwritten map.empty rows.now) }
+        ensures repeated { IsErrOf result Fault.Repeated ↔ (are_distinct (keys_of rows.now) ≡ false) }
+        ensures only { IfErr result (λ fault. (fault ≡ Fault.OutOfMemory) ⊎ (fault ≡ Fault.Repeated)) }
+    {
+        Ok(Serial {
+            app,
+            rows: Table::from_rows(alloc, rows)?,
+        })
+    }
 }
 
 impl<A: App> Serial<A> {

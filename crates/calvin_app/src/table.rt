@@ -1,7 +1,10 @@
 //! All rows, in memory.
-ghost use Rattle.std.specs.Prelude.{◌≡◌, [], IsOk, OnOk, OnErr, IsOkUnless};
+ghost use Rattle.std.specs.Prelude.{◌≡◌, ◌+◌, ◌<◌, ◌≤◌, ◌↔◌, ◌⊎◌, false, [], is_some, IfOk, IfErr, IsOk, IsErrOf, OnOk, OnErr, IsOkUnless};
 ghost use Rattle.std.specs.FinMap as map;
+ghost use Rattle.std.specs.HashMap.{spare};
+ghost use Rattle.calvin_types.specs.Keys.{key_cmp, has, are_distinct};
 ghost use Rattle.calvin_app.specs.Rows.{view, overwritten};
+ghost use Rattle.calvin_app.specs.Writing.{keys_of};
 
 use crate::look::{Look, look_up};
 use crate::view::View;
@@ -37,6 +40,25 @@ impl<Row: Copy> Table<Row> {
         Table {
             rows: HashMap::new(alloc),
         }
+    }
+
+    /// These rows. Refused with `Repeated` where a key comes twice, and else for want of memory: where memory is refused,
+    /// each pair of keys is compared.
+    pub fn from_rows(alloc: Global, rows: &[(Key, Row)]) -> Result<Table<Row>, Fault>
+        ensures ok { IfOk result (λ all. all ≡ overwritten map.empty rows.now) }
+        ensures repeated { IsErrOf result Fault.Repeated ↔ (are_distinct (keys_of rows.now) ≡ false) }
+        ensures only { IfErr result (λ fault. (fault ≡ Fault.OutOfMemory) ⊎ (fault ≡ Fault.Repeated)) }
+    {
+        let mut all = HashMap::new(alloc);
+        if all.reserve(rows.len()).is_err() {
+            return Err(first_fault(rows));
+        }
+        for &(key, row) in rows {
+            if put_row(&mut all, key, row) {
+                return Err(Fault::Repeated);
+            }
+        }
+        Ok(Table { rows: all })
     }
 
     /// Makes room for so many rows more. Refused for want of memory.
@@ -79,6 +101,43 @@ impl<Row: Copy> Table<Row> {
         }
         Ok(())
     }
+}
+
+/// Puts a row under a key where there is room for one, and says whether the key had one.
+fn put_row<Row: Copy>(rows: &mut HashMap<Key, Row>, key: Key, row: Row) -> bool
+    requires { 0 < spare rows.old }
+    ensures put { map.from_entries {R = key_cmp} rows.new.entries ≡ map.insert (map.from_entries rows.old.entries) key row }
+    ensures had { result ≡ is_some (map.get (map.from_entries {R = key_cmp} rows.old.entries) key) }
+    ensures room { spare rows.old ≤ spare rows.new + 1 }
+{
+    let put: Result<_, _> = rows.insert(key, row);
+    put.unwrap().is_some()
+}
+
+/// Why rows are refused for which there is no memory.
+fn first_fault<Row: Copy>(rows: &[(Key, Row)]) -> Fault
+    ensures repeated { (result ≡ Fault.Repeated) ↔ (are_distinct (keys_of rows.now) ≡ false) }
+    ensures only { (result ≡ Fault.OutOfMemory) ⊎ (result ≡ Fault.Repeated) }
+{
+    for i in 0..rows.len() {
+        let (key, _row) = rows[i];
+        if is_among(key, &rows[..i]) {
+            return Fault::Repeated;
+        }
+    }
+    Fault::OutOfMemory
+}
+
+/// Whether one of these rows has the key.
+fn is_among<Row: Copy>(key: Key, rows: &[(Key, Row)]) -> bool
+    ensures { result ≡ has (keys_of rows.now) key }
+{
+    for &(other, _row) in rows {
+        if key == other {
+            return true;
+        }
+    }
+    false
 }
 
 impl<Row: Copy> Look<Row> for Table<Row> {

@@ -13,3 +13,5 @@ mod keys;
 mod merge;
 #[cfg(test)]
 mod sequencer;
+#[cfg(test)]
+mod woven;

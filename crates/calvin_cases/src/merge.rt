@@ -43,7 +43,7 @@ fn held(
 }
 
 /// A batch of requests of these numbers comes to be held.
-fn hold(
+pub(crate) fn hold(
     rt: &impl Abort,
     alloc: Global,
     merge: &mut Merge<u32>,
@@ -67,7 +67,7 @@ fn check_taken(rt: &impl Abort, taken: &[(Place, Txn<u32>)], epoch: u64, numbers
 }
 
 /// Takes the next epoch, and compares the places and the numbers of its requests.
-fn gives(rt: &impl Abort, merge: &mut Merge<u32>, epoch: u64, numbers: &[u32]) {
+pub(crate) fn gives(rt: &impl Abort, merge: &mut Merge<u32>, epoch: u64, numbers: &[u32]) {
     same(rt, merge.next(), Some(epoch));
     match merge.take_epoch() {
         Ok(taken) => check_taken(rt, &taken, epoch, numbers),
@@ -94,9 +94,15 @@ fn groups_ascend(rt: HostRuntime) -> Result<(), Fail> {
 }
 
 /// Goes along the requests of an epoch where they stand, and compares their places and numbers.
-fn shows(rt: &impl Abort, merge: &Merge<u32>, epoch: u64, numbers: &[u32]) {
+pub(crate) fn shows(
+    rt: &impl Abort,
+    merge: &Merge<u32>,
+    config: &Config,
+    epoch: u64,
+    numbers: &[u32],
+) {
     let mut n = 0;
-    for (place, txn) in EpochRequests::new(merge, epoch, 2) {
+    for (place, txn) in EpochRequests::new(merge, epoch, config) {
         same(rt, place, Place { epoch, n });
         same(rt, Some(&txn.id.number), numbers.get(n as usize));
         n = n.saturating_add(1);
@@ -107,17 +113,18 @@ fn shows(rt: &impl Abort, merge: &Merge<u32>, epoch: u64, numbers: &[u32]) {
 #[test]
 fn requests_where_they_stand(rt: HostRuntime) -> Result<(), Fail> {
     let alloc = rt.alloc();
+    let config = Config::new(2, 1)?;
     let mut merge = merge_of(alloc, 2)?;
     hold(&rt, alloc, &mut merge, 0, 1, &[5, 4]);
-    shows(&rt, &merge, 0, &[5, 4]);
+    shows(&rt, &merge, &config, 0, &[5, 4]);
     same(&rt, merge.pass_epoch(), Err(Fault::NotComplete));
     hold(&rt, alloc, &mut merge, 0, 0, &[9]);
     hold(&rt, alloc, &mut merge, 1, 0, &[7]);
-    shows(&rt, &merge, 0, &[9, 5, 4]);
+    shows(&rt, &merge, &config, 0, &[9, 5, 4]);
     same(&rt, merge.pass_epoch(), Ok(()));
     same(&rt, merge.next(), Some(1));
-    shows(&rt, &merge, 1, &[7]);
-    shows(&rt, &merge, 2, &[]);
+    shows(&rt, &merge, &config, 1, &[7]);
+    shows(&rt, &merge, &config, 2, &[]);
     drop(merge);
     Ok(())
 }

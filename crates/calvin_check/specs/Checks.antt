@@ -1,5 +1,5 @@
 -- What the engine `check` writes. The text is of this project; what it tells is what events make of a world.
---     first_world script      the world of the script before its events: its keeper of rows has no points and no cold table, and nothing is delayed
+--     first_world script      the world of the script before its events
 --     ended m script      how the events end, and the world that they lead to
 --     answer_lines show w      the lines of the answers: one for each place at which something was replied, and the last line
 --     are_lines texts lines, are_expected expect lines      the texts are the lines, each without its line feed;  where any are expected
@@ -19,7 +19,7 @@ use Rattle.calvin_edge.specs.declared.reading.TheConstants.{MOST_BYTES}
 use Rattle.calvin_app.specs.Meaning.{Meaning}
 use Rattle.calvin_app.specs.Kv.{kv}
 use Rattle.calvin_stock.specs.Stock.{stock}
-use Rattle.calvin_acts.specs.Running.{config_of}
+use Rattle.calvin_world.specs.RunningWorlds.{store_config}
 use Rattle.calvin_world.specs.declared.event.Outcome.{Outcome}
 use Rattle.calvin_world.specs.Worlds.{WorldState, opening}
 use Rattle.calvin_world.specs.Through.{through}
@@ -45,7 +45,7 @@ are_expected (Some texts) lines = are_lines texts lines
 
 module _ {Args Row Reply : Type 0} where
   abbrev pub first_world : WorldContents Args → WorldState Args Row Reply
-  first_world script = opening (config_of script.partitions script.replicas false false 0)
+  first_world script = opening (store_config script.partitions script.replicas script.delay script.woven_from)
 
   abbrev pub ended : Meaning Args Row Reply → WorldContents Args → List Outcome × WorldState Args Row Reply
   ended m script = through m (first_world script) script.events

@@ -14,14 +14,14 @@ use crate::running::run_events;
 use calvin_app::{App, Kv};
 use calvin_edge::{Sink, Source, read_all, write_all};
 use calvin_events::{EventScript, event_script_of};
-use calvin_lock::{Locks, QueueLocks};
+use calvin_lock::Locks;
 use calvin_report::{Epochs, finished, push_nodes, push_replies, replies_of};
 use calvin_script::{AppName, Document, Kept, Operation};
 use calvin_stock::Stock;
-use calvin_store::{PlainRows, Rows};
+use calvin_store::Rows;
 use calvin_text::{Printed, push_last};
 use calvin_types::{Config, Fault};
-use calvin_world::World;
+use calvin_world::{StoreWorld, World};
 use std::alloc::Global;
 
 /// What is told of a script.
@@ -73,9 +73,10 @@ where
     let config = Config {
         partitions: script.partitions,
         replicas: script.replicas,
-        delay: 0,
+        delay: script.delay,
+        woven_from: script.woven_from,
     };
-    let mut world = World::<A, QueueLocks, PlainRows<A::Row>>::new(alloc, &config, app)?;
+    let mut world = StoreWorld::<A>::new(alloc, &config, app)?;
     let mut text = Vec::new(alloc);
     run_events(&mut world, &script.events, &mut text)?;
     let is_expected = tell_world(alloc, &world, &script.expect, &mut text)?;

@@ -32,6 +32,9 @@ The script comes on standard input, as JSON of at most 1,048,576 bytes:
   {\"partitions\":2,\"app\":\"kv\",
    \"epochs\":[ [ {\"group\":0,\"txns\":[TXN, ..]}, .. ], .. ]}
 
+and where wanted \"woven_from\":e: from epoch e on the first requests of all groups
+come first, then the second ones, and so on, in place of whole batches.
+
   TXN  {\"client\":7,\"number\":1,\"op\":OP}, and where wanted \"attempt\":1,
        and \"reads\":[KEY, ..],\"writes\":[KEY, ..], both or neither
   KEY  [table,id]
@@ -51,16 +54,19 @@ The script comes on standard input, as JSON of at most 1,048,576 bytes:
 
   {\"partitions\":2,\"replicas\":3,\"app\":\"kv\",\"events\":[EVENT, ..]}
 
-and where wanted \"expect\":[text, ..], the lines of answers and the last one.
+and where wanted \"expect\":[text, ..], the lines of answers and the last one,
+\"woven_from\":e as `calvin serial --help` says, and \"delay\":d, for how many
+closings, 0 to 16, a request is held back that may touch cold rows.
 
   EVENT  [\"submit\",r,p,TXN], [\"close\",r,p], [\"propose\",r,p,e],
          [\"deliver\",k], [\"merge\",r,p], [\"lock\",r,p], [\"begin\",r,p,e,n],
          [\"finish\",r,p,e,n], [\"snapshot\",r,p,e], [\"askreads\",r,p,e,n,r2],
-         [\"askbatch\",r,p,e,g,r2,p2], [\"restart\",r,p]
+         [\"askbatch\",r,p,e,g,r2,p2], [\"restart\",r,p], [\"mark\",r,p,e],
+         [\"submitcold\",r,p,TXN], [\"cool\",r,p,KEY]
 
 r and p are a replica and a partition, e an epoch, n a request's number in its
 epoch, g a group, k the number of a packet; all count from 0. `calvin serial
---help` shows the form of a TXN.
+--help` shows the forms of a TXN and a KEY.
 
 A line for each event says how it ended, `k ok` or `k refused number`; one for
 each node where it stands, `node r.p stands e rows m`; one for each request that

@@ -66,10 +66,20 @@ fn text_of(alloc: Global, list: &Events) -> Result<String, AllocError> {
 
 /// Runs `calvin check` on the list, and compares what it prints.
 pub(crate) fn happens(rt: &impl Abort, alloc: Global, list: &Events) -> Result<(), AllocError> {
+    happens_with(rt, alloc, "", list)
+}
+
+/// The same for a script with further members, each with a comma behind it.
+pub(crate) fn happens_with(
+    rt: &impl Abort,
+    alloc: Global,
+    members: &str,
+    list: &Events,
+) -> Result<(), AllocError> {
     let (partitions, replicas) = (list.partitions, list.replicas);
     let events = joined(alloc, list.pieces)?;
     let script = format!(in alloc;
-        "{{\"partitions\":{partitions},\"replicas\":{replicas},\"app\":\"kv\",\"events\":[{events}]}}"
+        "{{\"partitions\":{partitions},\"replicas\":{replicas},\"app\":\"kv\",{members}\"events\":[{events}]}}"
     )?;
     let text = text_of(alloc, list)?;
     runs(rt, alloc, &["calvin", "check"], &script, 0, &text, "");

@@ -14,6 +14,10 @@ mod limits;
 #[cfg(test)]
 mod lines;
 #[cfg(test)]
+mod points;
+#[cfg(test)]
 mod sim;
 #[cfg(test)]
 mod snapshots;
+#[cfg(test)]
+mod woven;

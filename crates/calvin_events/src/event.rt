@@ -4,7 +4,7 @@ ghost use Rattle.calvin_events.specs.EventForms.{act_of, event_of};
 
 use calvin_node::Act;
 use calvin_script::{Kept, Operation};
-use calvin_types::{NodeId, Place, Slot};
+use calvin_types::{Key, NodeId, Place, Slot};
 use calvin_world::Event;
 
 /// One of a node's own events, as `Act` has them. `R` is how a request is kept: `Kept` for what is read. A request lies
@@ -12,12 +12,15 @@ use calvin_world::Event;
 #[derive(Drop)]
 pub enum ListedAct<R> {
     Submit(Box<R>),
+    SubmitCold(Box<R>),
+    Cool(Key),
     Close,
     Merge,
     Lock,
     Restart,
     Propose(u64),
     Snapshot(u64),
+    Mark(u64),
     Begin(Place),
     Finish(Place),
     AskForReads(Place, u8),
@@ -40,12 +43,15 @@ impl<Op: Operation> ListedAct<Kept<Op>> {
     {
         match self {
             ListedAct::Submit(request) => Act::Submit(request.txn()),
+            ListedAct::SubmitCold(request) => Act::SubmitCold(request.txn()),
+            ListedAct::Cool(key) => Act::Cool(*key),
             ListedAct::Close => Act::Close,
             ListedAct::Merge => Act::Merge,
             ListedAct::Lock => Act::Lock,
             ListedAct::Restart => Act::Restart,
             ListedAct::Propose(epoch) => Act::Propose(*epoch),
             ListedAct::Snapshot(epoch) => Act::Snapshot(*epoch),
+            ListedAct::Mark(epoch) => Act::Mark(*epoch),
             ListedAct::Begin(place) => Act::Begin(*place),
             ListedAct::Finish(place) => Act::Finish(*place),
             ListedAct::AskForReads(place, replica) => Act::AskForReads(*place, *replica),

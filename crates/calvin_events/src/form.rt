@@ -1,29 +1,17 @@
 //! How events are written.
 ghost use Rattle.std.specs.Prelude.{◌≡◌, option_map};
 ghost use Rattle.serde_json.specs.View.{view};
-ghost use Rattle.calvin_types.specs.declared.limits.TheConstants.{MOST_EPOCHS};
-ghost use Rattle.calvin_script.specs.Spelling.{below};
 ghost use Rattle.calvin_script.specs.Numbers.{one_number};
 ghost use Rattle.calvin_script.specs.Gives.{Gives};
-ghost use Rattle.calvin_events.specs.EventForms.{node_of, place_of, slot_of, node, epoch, place, place_and_replica, slot_and_node, act_of, act_alone, act_named, submit, act_at, event_of, event};
+ghost use Rattle.calvin_events.specs.EventForms.{node_of, place_of, slot_of, node, epoch, cooled, place, place_and_replica, slot_and_node, act_of, act_alone, act_named, submit, act_at, event_of, event};
 
 use crate::event::{ListedAct, ListedEvent};
-use calvin_script::{Kept, Operation, Spelled, one_number, u8_of, u32_of};
-use calvin_types::{Fault, MOST_EPOCHS, NodeId, Place, Slot};
+use calvin_script::{
+    Kept, KeyForm, Operation, Spelled, WholeKey, epoch_of, one_number, u8_of, u32_of,
+};
+use calvin_types::{Fault, Key, NodeId, Place, Slot};
 use serde_json::Value;
 use std::alloc::Global;
-
-/// The number of an epoch.
-fn epoch_of(value: &Value) -> Option<u64>
-    ensures { result ≡ below MOST_EPOCHS (view value.now) }
-{
-    let epoch = value.as_u64()?;
-    if epoch < MOST_EPOCHS {
-        Some(epoch)
-    } else {
-        None
-    }
-}
 
 #[tactic(auto, unfolding(crate::specs::EventForms::node_of))]
 fn node_of(replica: &Value, partition: &Value) -> Option<NodeId>
@@ -69,6 +57,17 @@ fn epoch(value: &Value) -> Option<u64>
         return None;
     }
     epoch_of(value.get(3)?)
+}
+
+/// The key of an event that has nothing else behind its node.
+#[tactic(auto, unfolding(crate::specs::EventForms::cooled))]
+fn cooled(value: &Value) -> Option<Key>
+    ensures { result ≡ cooled (view value.now) }
+{
+    if value.get(4).is_some() {
+        return None;
+    }
+    WholeKey::key_of(value.get(3)?)
 }
 
 /// The place of an event that has nothing else behind its node.
@@ -129,7 +128,7 @@ fn act_alone<Op: Operation>(name: &str, value: &Value) -> Option<ListedAct<Kept<
     }
 }
 
-/// The event of a node that has numbers alone, by its name.
+/// The event of a node that has no request, by its name.
 #[tactic(auto, unfolding(crate::specs::EventForms::act_named))]
 fn act_named<Op: Operation>(name: &str, value: &Value) -> Option<ListedAct<Kept<Op>>>
     ensures { option_map act_of result ≡ act_named name.now (view value.now) }
@@ -139,6 +138,12 @@ fn act_named<Op: Operation>(name: &str, value: &Value) -> Option<ListedAct<Kept<
     }
     if name == "snapshot" {
         return Some(ListedAct::Snapshot(epoch(value)?));
+    }
+    if name == "mark" {
+        return Some(ListedAct::Mark(epoch(value)?));
+    }
+    if name == "cool" {
+        return Some(ListedAct::Cool(cooled(value)?));
     }
     if name == "begin" {
         return Some(ListedAct::Begin(place(value)?));
@@ -183,6 +188,10 @@ fn act_at<Op: Operation>(
     if name == "submit" {
         let request = submitted(alloc, value)?;
         return Ok(ListedAct::Submit(request));
+    }
+    if name == "submitcold" {
+        let request = submitted(alloc, value)?;
+        return Ok(ListedAct::SubmitCold(request));
     }
     act_named(name, value).ok_or(Fault::BadScript)
 }

@@ -1,17 +1,30 @@
 //! From JSON to a script of events.
-ghost use Rattle.std.specs.Prelude.{◌≡◌};
+ghost use Rattle.std.specs.Prelude.{◌≡◌, ◌≤◌, IfSome, option_map};
 ghost use Rattle.serde_json.specs.View.{view};
+ghost use Rattle.calvin_types.specs.declared.limits.TheConstants.{MOST_DELAY};
 ghost use Rattle.calvin_script.specs.Gives.{Gives};
 ghost use Rattle.calvin_script.specs.Documents.{data_of};
 ghost use Rattle.calvin_script.specs.Reading.{Reads};
+ghost use Rattle.calvin_script.specs.Spelling.{between, optional};
 ghost use Rattle.calvin_events.specs.EventScripts.{world_contents, world_script, world_script_in};
 
 use crate::contents::EventScript;
 use crate::texts::expected;
-use calvin_script::{Document, Kept, Operation, between, has_only, list_of};
-use calvin_types::{Fault, MOST_PARTITIONS, MOST_REPLICAS};
+use calvin_script::{Document, Kept, Operation, between, first_woven, has_only, list_of};
+use calvin_types::{Fault, MOST_DELAY, MOST_PARTITIONS, MOST_REPLICAS};
 use serde_json::Value;
 use std::alloc::Global;
+
+/// For how many closings requests are held back: 0 where no number is given.
+fn delay_of(value: Option<&Value>) -> Option<u8>
+    ensures given { result ≡ optional 0 (between 0 MOST_DELAY) (option_map (λ v. view v.now) value.entry) }
+    ensures in_range { IfSome result (λ delay. delay ≤ MOST_DELAY) }
+{
+    match value {
+        None => Some(0),
+        Some(value) => between(0, MOST_DELAY, value),
+    }
+}
 
 #[tactic(auto, unfolding(crate::specs::EventScripts::world_script))]
 fn script_of<Op: Operation>(alloc: Global, mut value: Value) -> Result<EventScript<Kept<Op>>, Fault>
@@ -19,7 +32,15 @@ fn script_of<Op: Operation>(alloc: Global, mut value: Value) -> Result<EventScri
 {
     if !has_only(
         &value,
-        &["partitions", "replicas", "app", "events", "expect"],
+        &[
+            "partitions",
+            "replicas",
+            "app",
+            "delay",
+            "woven_from",
+            "events",
+            "expect",
+        ],
     ) {
         return Err(Fault::BadScript);
     }
@@ -32,12 +53,16 @@ fn script_of<Op: Operation>(alloc: Global, mut value: Value) -> Result<EventScri
     if app != Op::app_name() {
         return Err(Fault::BadScript);
     }
+    let delay = delay_of(value.get("delay")).ok_or(Fault::BadScript)?;
+    let woven_from = first_woven(value.get("woven_from")).ok_or(Fault::BadScript)?;
     let expect = expected(alloc, value.get("expect"))?;
     let events = value.get_mut("events").ok_or(Fault::BadScript)?.take();
     let events = list_of(alloc, events)?;
     Ok(EventScript {
         partitions,
         replicas,
+        delay,
+        woven_from,
         events,
         expect,
     })

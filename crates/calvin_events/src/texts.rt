@@ -1,7 +1,7 @@
 //! Texts that are expected.
 ghost use Rattle.std.specs.Prelude.{◌≡◌, map, None, Some, option_map, string_bytes};
 ghost use Rattle.serde_json.specs.View.{view};
-ghost use Rattle.calvin_script.specs.Spelling.{optional};
+ghost use Rattle.calvin_script.specs.Spelling.{where_given};
 ghost use Rattle.calvin_script.specs.Gives.{Gives};
 ghost use Rattle.calvin_events.specs.EventScripts.{texts};
 
@@ -26,7 +26,7 @@ fn texts_of(alloc: Global, value: &Value) -> Result<Vec<String>, Fault>
 /// The texts of a member that may be left out.
 pub(crate) fn expected(alloc: Global, value: Option<&Value>) -> Result<Option<Vec<String>>, Fault>
     ensures { Gives (option_map (λ v. map string_bytes v.items)) result
-        (optional None (λ d. option_map Some (texts d)) (option_map (λ v. view v.now) value.entry)) }
+        (where_given texts (option_map (λ v. view v.now) value.entry)) }
 {
     match value {
         None => Ok(None),

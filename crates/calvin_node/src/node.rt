@@ -2,9 +2,9 @@
 ghost use Rattle.std.specs.Prelude.{◌≡◌, ◌^◌, length, MatchOption};
 ghost use Rattle.std.specs.Option.{option_copied};
 ghost use Rattle.std.specs.FinMap as map;
+ghost use Rattle.calvin_order.specs.Configs.{config_of};
 ghost use Rattle.calvin_order.specs.Sequencing.{next_epoch};
 ghost use Rattle.calvin_acts.specs.NodeStates.{new_node};
-ghost use Rattle.calvin_acts.specs.Running.{config_of};
 
 use calvin_app::App;
 use calvin_lock::Locks;
@@ -51,7 +51,7 @@ impl<A: App, L: Locks + Drop, S: Rows<A::Row> + Drop> Model for Node<A, L, S> {
 impl<A: App, L: Locks + Drop, S: Rows<A::Row> + Drop> Node<A, L, S> {
     /// A node at first: nothing is submitted, promised, held or kept, and there is no row.
     pub fn new(alloc: Global, config: &Config, id: NodeId) -> Node<A, L, S>
-        ensures config { result.config ≡ config_of config.now.partitions config.now.replicas S.points S.cold config.now.delay }
+        ensures config { result.config ≡ config_of config.now S.points S.cold }
         ensures state { result.state ≡ new_node id }
     {
         Node {

@@ -115,13 +115,22 @@ impl<L: Locks + Drop, S: Rows<u64> + Drop> Nodes<L, S> {
     /// The last node is opened anew from its durable record. Where that is refused, it is opened from the record that was
     /// handed back.
     fn reopen(&mut self) -> Result<(), Fault> {
+        self.reopen_under(self.config)
+    }
+
+    /// The last node is opened anew from its durable record, under this configuration. Where that is refused, it is opened as it
+    /// was, from the record that was handed back.
+    pub fn reopen_under(&mut self, config: Config) -> Result<(), Fault> {
         let Some(node) = self.nodes.pop() else {
             return Err(Fault::NoNode);
         };
         let id = node.id();
+        let before = self.config;
+        self.config = config;
         match self.open(id, node.into_durable()) {
             Ok(()) => Ok(()),
             Err((fault, record)) => {
+                self.config = before;
                 // Where this is refused too, a node is missing, which whoever compares the nodes sees.
                 drop(self.open(id, record));
                 Err(fault)

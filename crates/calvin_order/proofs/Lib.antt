@@ -6,7 +6,9 @@ pub mod NextEpochs
 pub mod Places
 pub mod Queues
 pub mod Ranges
+pub mod Rings
 pub mod Sequencers
 pub mod Standing
 pub mod Walks
+pub mod Weaves
 pub mod SameOrders

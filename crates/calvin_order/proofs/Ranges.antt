@@ -94,5 +94,5 @@ module _ {Args : Type 0} where
   -- after the last epoch nothing is left to give
   pub ready_past_last : (m : Merging Args) → EpochsFit m.held → m.next ≡ 2 ^ 64 → IsReady m
   ready_past_last m in_range past =
-      let none = ap length (joined_none (held_by m) m.next m.partitions (λ g less. none_past_last m.held in_range (record { epoch = m.next; group = g }) past)) in
+      let none = ap length (joined_none (held_by m) m.next m.config.partitions (λ g less. none_past_last m.held in_range (record { epoch = m.next; group = g }) past)) in
       omega (arith, none)

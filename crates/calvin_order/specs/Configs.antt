@@ -1,6 +1,7 @@
 -- What all nodes of a store are opened with, and the order that it gives to batches (Thomson et al. 2012, section 3.1:
 -- every scheduler interleaves the batches of an epoch in one fixed way).
 use Rattle.std.specs.Prelude.{ℕ, Bool, false, zero, suc, nat_le, if◌then◌else◌, List, [], ◌∷◌, ◌++◌, length, Option, Some, None}
+use Rattle.calvin_types.specs.declared.config.Config.{Config as TheConfig}
 use Rattle.calvin_types.specs.declared.place.Place.{Place}
 use Rattle.calvin_types.specs.declared.place.Slot.{Slot}
 use Rattle.calvin_types.specs.Orders.{Rises}
@@ -19,9 +20,17 @@ pub record Config : Type 0 where
   -- the first epoch whose batches are woven, if there is one
   pub woven_from : Option ℕ
 
--- a configuration of so many partitions in which nothing is woven; an order goes by nothing else of one (law `same_orders`)
-abbrev pub unwoven : ℕ → Config
-unwoven partitions = record { replicas = 1; partitions = partitions; points = false; cold = false; delay = 0; woven_from = None }
+-- what a store is opened with in code, over keepers of rows that can do so much
+abbrev pub config_of : TheConfig → Bool → Bool → Config
+config_of c points cold = record { replicas = c.replicas; partitions = c.partitions; points = points; cold = cold; delay = c.delay; woven_from = c.woven_from }
+
+-- the same where nothing is known of the rows, which no order goes by (law `same_orders`)
+abbrev pub order_config : TheConfig → Config
+order_config c = config_of c false false
+
+-- a configuration over keepers of rows that can do so much
+abbrev pub over : Config → Bool → Bool → Config
+over c points cold = record c { points = points; cold = cold }
 
 -- the batches of this epoch are woven
 abbrev pub is_woven : Option ℕ → ℕ → Bool

@@ -2,7 +2,7 @@
 -- all sequencers).
 --     Batches Args      the batches that are held, by their slots
 --     Holding Args      these, and how many more are sure to find room
---     Merging Args      the groups, the epoch that is taken next, the batches held, and the memory reserved
+--     Merging Args      what the store is opened with, the epoch that is taken next, the batches held, and the memory reserved
 --     batch_at held slot      the batch held for a slot, or the empty one
 --     HoldsAll held e parts      each group below parts has a batch held for epoch e
 --     held_by m      the assignment that m holds
@@ -11,14 +11,14 @@
 --     with_batch slot batch m      m with one more batch, unless the slot has one
 --     without_epoch e g held      what is held besides the batches of epoch e of the groups below g
 --     EpochsFit held      no batch is held for an epoch past 2^64 - 1
---     IsMerge parts held given      what is true of every merge: at least one group and at most as many as there can be, no epoch past the last is held, no request is kept back
+--     IsMerge held given      what is true of every merge: no epoch past the last is held, no request is kept back
 use Rattle.std.specs.Prelude.{◌≡◌, ℕ, ◌-◌, ◌^◌, ◌<◌, ◌≤◌, ◌==◌, nat_lt, not, ◌&&◌, [], length, if◌then◌else◌, IsSome}
 use Rattle.std.specs.Option.{unwrap_or}
 use Rattle.std.specs.FinMap.{FinMap, get, contains_key, insert, retain_keys}
-use Rattle.calvin_types.specs.declared.limits.TheConstants.{MOST_PARTITIONS}
 use Rattle.calvin_types.specs.declared.place.Slot.{Slot}
 use Rattle.calvin_types.specs.Orders.{Order}
 use Rattle.calvin_types.specs.Places.{slot_cmp}
+use Rattle.calvin_order.specs.Configs.{Config}
 use Rattle.calvin_order.specs.Merged.{Batch, Assignment, joined}
 
 abbrev pub Batches : Type 0 → Type 0
@@ -30,8 +30,8 @@ pub record Holding (Args : Type 0) : Type 0 where
 
 -- the merge of one node
 pub record Merging (Args : Type 0) : Type 0 where
-  -- how many groups there are, numbered from 0
-  pub partitions : ℕ
+  -- how many groups there are, and which of their batches are woven
+  pub config : Config
   -- the epoch that is taken next: 2^64 after the last
   pub next : ℕ
   pub held : Batches Args
@@ -51,11 +51,11 @@ module _ {Args : Type 0} where
   held_by m = batch_at m.held
 
   abbrev pub IsComplete : Merging Args → Type 0
-  IsComplete m = HoldsAll m.held m.next m.partitions
+  IsComplete m = HoldsAll m.held m.next m.config.partitions
 
   -- the requests held for the next epoch can be given without growing
   abbrev pub IsReady : Merging Args → Type 0
-  IsReady m = length (joined (held_by m) m.next m.partitions) ≤ m.ready
+  IsReady m = length (joined (held_by m) m.next m.config.partitions) ≤ m.ready
 
   abbrev pub with_batch : Slot → Batch Args → Merging Args → Merging Args
   with_batch slot batch m = if contains_key m.held slot then m else record m { held = insert m.held slot batch; room = m.room - 1 }
@@ -66,8 +66,6 @@ module _ {Args : Type 0} where
   abbrev pub EpochsFit : Batches Args → Type 0
   EpochsFit held = (slot : Slot) → IsSome (get held slot) → slot.epoch < 2 ^ 64
 
-  pub record IsMerge (parts : ℕ) (held : Batches Args) (given : Order Args) : Type 0 where
-    pub some : 0 < parts
-    pub few : parts ≤ MOST_PARTITIONS
+  pub record IsMerge (held : Batches Args) (given : Order Args) : Type 0 where
     pub in_range : EpochsFit held
     pub none_kept : given ≡ []

@@ -2,12 +2,12 @@
 ghost use Rattle.std.specs.Prelude.{◌≡◌, ◌+◌, ◌*◌, ◌-◌, ◌<◌, ◌≤◌, ◌↔◌, ◌++◌, [], length, max, is_none, IfOk, IsOk, IsNone, IsTrue, OnOk, OnErr, IsOkUnless, vec_len, vec_capacity, if◌then◌else◌};
 ghost use Rattle.std.specs.Option.{option_copied};
 ghost use Rattle.std.specs.FinMap as map;
-ghost use Rattle.calvin_order.specs.Configs.{merged, unwoven};
+ghost use Rattle.calvin_order.specs.Configs.{merged, order_config};
 ghost use Rattle.calvin_order.specs.Merged.{joined, numbered};
 ghost use Rattle.calvin_order.specs.Merging.{batch_at, HoldsAll, without_epoch};
 
 use crate::walk::{BatchSource, EpochRequests};
-use calvin_types::{Batch, Fault, MOST_PARTITIONS, MOST_REQUESTS, Place, RoomMap, Slot, Txn};
+use calvin_types::{Batch, Config, Fault, MOST_REQUESTS, Place, RoomMap, Slot, Txn};
 use std::alloc::Global;
 use std::marker::Model;
 
@@ -120,13 +120,12 @@ impl<Args: Copy> Held<Args> {
     }
 
     /// Appends the groups' requests for an epoch, each with its place.
-    pub fn append_all(&self, epoch: u64, groups: u8, out: &mut Vec<(Place, Txn<Args>)>)
+    pub fn append_all(&self, epoch: u64, config: &Config, out: &mut Vec<(Place, Txn<Args>)>)
         requires empty { out.old.items ≡ [] }
-        requires few { groups ≤ MOST_PARTITIONS }
-        requires room { length (joined (batch_at self.now.batches) epoch groups) ≤ vec_capacity out.old }
-        ensures { out.new.items ≡ merged (unwoven groups) (batch_at self.now.batches) epoch }
+        requires room { length (joined (batch_at self.now.batches) epoch config.now.partitions) ≤ vec_capacity out.old }
+        ensures { out.new.items ≡ merged (order_config config.now) (batch_at self.now.batches) epoch }
     {
-        for (place, txn) in EpochRequests::new(self, epoch, groups) {
+        for (place, txn) in EpochRequests::new(self, epoch, config) {
             out.push_reserved((place, *txn));
         }
     }

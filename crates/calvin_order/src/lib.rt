@@ -1,6 +1,6 @@
 //! How requests come to stand in one order. The sequencer of one node queues them, holds some of them back, and closes them
 //! in batches. The merge of one node holds a batch for each slot and gives the epochs' requests in one order, epoch after
-//! epoch, and in an epoch whole batches by ascending group.
+//! epoch, and in an epoch whole batches by ascending group, or, from a configured epoch on, woven ones.
 #![tactic(auto)]
 
 mod held;
@@ -10,6 +10,7 @@ mod merge;
 mod queue;
 mod same;
 mod sequencer;
+mod turns;
 mod walk;
 
 pub use merge::{Merge, orders_rise};

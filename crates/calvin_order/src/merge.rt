@@ -3,7 +3,7 @@ ghost use Rattle.std.specs.Prelude.{◌≡◌, ◌^◌, ◌<◌, ◌≤◌, ◌�
 ghost use Rattle.std.specs.Option.{option_copied, unwrap_or};
 ghost use Rattle.std.specs.FinMap as map;
 ghost use Rattle.calvin_types.specs.Orders.{Rises};
-ghost use Rattle.calvin_order.specs.Configs.{merged, unwoven, OrdersRise};
+ghost use Rattle.calvin_order.specs.Configs.{merged, order_config, OrdersRise};
 ghost use Rattle.calvin_order.specs.Merged.{joined};
 ghost use Rattle.calvin_order.specs.Merging.{held_by, with_batch, without_epoch, IsComplete, IsReady};
 
@@ -19,7 +19,7 @@ use std::mem;
 #[derive(Drop)]
 pub struct Merge<Args> {
     alloc: Global,
-    partitions: u8,
+    config: Config,
     next: Option<u64>,
     held: Held<Args>,
     ready: Vec<(Place, Txn<Args>)>,
@@ -28,6 +28,7 @@ pub struct Merge<Args> {
 impl<Args> Model for Merge<Args> {
     ghost use Rattle.std.specs.Prelude.{◌^◌, vec_capacity};
     ghost use Rattle.std.specs.Option.{unwrap_or};
+    ghost use Rattle.calvin_order.specs.Configs.{order_config};
     ghost use Rattle.calvin_order.specs.Merging.{Merging, IsMerge};
     ghost use Rattle.calvin_order.specs.Codes.{coded_merging};
 
@@ -35,15 +36,15 @@ impl<Args> Model for Merge<Args> {
 
     ghost coded = { coded_merging Args.code };
 
-    ghost view = { λ m. record { partitions = m.partitions; next = unwrap_or m.next (2 ^ 64); held = m.held.batches; room = m.held.room; ready = vec_capacity m.ready } };
+    ghost view = { λ m. record { config = order_config m.config; next = unwrap_or m.next (2 ^ 64); held = m.held.batches; room = m.held.room; ready = vec_capacity m.ready } };
 
-    ghost invariant = { λ m. IsMerge m.partitions m.held.batches m.ready.items };
+    ghost invariant = { λ m. IsMerge m.held.batches m.ready.items };
 }
 
 impl<Args: Copy> Merge<Args> {
     /// A merge of as many groups as there are partitions: nothing is held, and epoch 0 is next.
     pub fn new(alloc: Global, config: &Config) -> Merge<Args>
-        ensures { result ≡ record { partitions = config.now.partitions; next = 0; held = map.empty; room = 0; ready = 0 } }
+        ensures { result ≡ record { config = order_config config.now; next = 0; held = map.empty; room = 0; ready = 0 } }
     {
         Merge::from_epoch(alloc, config, Some(0))
     }
@@ -51,11 +52,11 @@ impl<Args: Copy> Merge<Args> {
     /// A merge that goes on after what was restored: nothing is held, and `first` is the next epoch. No epoch is left
     /// where it is none, as after epoch 2^64 - 1.
     pub fn from_epoch(alloc: Global, config: &Config, first: Option<u64>) -> Merge<Args>
-        ensures { result ≡ record { partitions = config.now.partitions; next = unwrap_or first (2 ^ 64); held = map.empty; room = 0; ready = 0 } }
+        ensures { result ≡ record { config = order_config config.now; next = unwrap_or first (2 ^ 64); held = map.empty; room = 0; ready = 0 } }
     {
         Merge {
             alloc,
-            partitions: config.partitions,
+            config: *config,
             next: first,
             held: Held::new(alloc),
             ready: Vec::new(alloc),
@@ -112,7 +113,7 @@ impl<Args: Copy> Merge<Args> {
         ensures { MatchOption result (¬ IsComplete self.now) (λ epoch. IsComplete self.now × (epoch ≡ self.now.next)) }
     {
         let epoch = self.next?;
-        if self.held.has_all(epoch, self.partitions) {
+        if self.held.has_all(epoch, self.config.partitions) {
             Some(epoch)
         } else {
             None
@@ -139,16 +140,17 @@ impl<Args: Copy> Merge<Args> {
     /// Discards the batches that are held for an epoch, for a caller who doesn't need them again: else what is held grows
     /// with the epochs. A batch that comes again for one of their slots is held again.
     pub fn discard_epoch(&mut self, epoch: u64)
-        ensures { self.new ≡ record self.old { held = without_epoch epoch self.old.partitions self.old.held } }
+        ensures { self.new ≡ record self.old { held = without_epoch epoch self.old.config.partitions self.old.held } }
     {
-        self.held.remove_all(epoch, self.partitions);
+        self.held.remove_all(epoch, self.config.partitions);
     }
 
-    /// The requests of the next epoch: whole batches by ascending group, the n-th request at the place (epoch, n).
-    /// Refused with `NotComplete` where a group's batch isn't held for that epoch, as always once no epoch is left; else
-    /// with `OutOfMemory` where a growth was refused. Batches stay held.
+    /// The requests of the next epoch, the n-th one at the place (epoch, n): whole batches by ascending group, or, from the
+    /// first woven epoch on, the first requests of all groups, then the second ones, and so on. Refused with `NotComplete`
+    /// where a group's batch isn't held for that epoch, as always once no epoch is left; else with `OutOfMemory` where a
+    /// growth was refused. Batches stay held.
     pub fn take_epoch(&mut self) -> Result<Vec<(Place, Txn<Args>)>, Fault>
-        ensures merged { IfOk result (λ v. v.items ≡ merged (unwoven self.old.partitions) (held_by self.old) self.old.next) }
+        ensures merged { IfOk result (λ v. v.items ≡ merged self.old.config (held_by self.old) self.old.next) }
         ensures rising { IfOk result (λ v. Rises v.items) }
         ensures next { OnOk result (self.new ≡ record self.old { next = suc self.old.next; ready = 0 }) }
         ensures complete { OnOk result (IsComplete self.old) }
@@ -160,9 +162,10 @@ impl<Args: Copy> Merge<Args> {
         let Some(epoch) = self.complete() else {
             return Err(Fault::NotComplete);
         };
-        self.ready.reserve(self.held.count(epoch, self.partitions))?;
+        self.ready
+            .reserve(self.held.count(epoch, self.config.partitions))?;
         let mut requests = mem::replace(&mut self.ready, Vec::new(self.alloc));
-        self.held.append_all(epoch, self.partitions, &mut requests);
+        self.held.append_all(epoch, &self.config, &mut requests);
         self.next = epoch.checked_add(1);
         Ok(requests)
     }
@@ -171,17 +174,17 @@ impl<Args: Copy> Merge<Args> {
     /// found room for them: nothing is taken. Refused as `take_epoch` is, and with `OutOfMemory` only where there is a
     /// request.
     pub fn next_requests(&self) -> Result<Vec<(Place, Txn<Args>)>, Fault>
-        ensures merged { IfOk result (λ v. v.items ≡ merged (unwoven self.now.partitions) (held_by self.now) self.now.next) }
+        ensures merged { IfOk result (λ v. v.items ≡ merged self.now.config (held_by self.now) self.now.next) }
         ensures complete { OnOk result (IsComplete self.now) }
         ensures not_complete { IsErrOf result Fault.NotComplete ↔ ¬ IsComplete self.now }
-        ensures only { IfErr result (λ fault. (fault ≡ Fault.NotComplete) ⊎ ((fault ≡ Fault.OutOfMemory) × (0 < length (joined (held_by self.now) self.now.next self.now.partitions)))) }
+        ensures only { IfErr result (λ fault. (fault ≡ Fault.NotComplete) ⊎ ((fault ≡ Fault.OutOfMemory) × (0 < length (joined (held_by self.now) self.now.next self.now.config.partitions)))) }
     {
         let Some(epoch) = self.complete() else {
             return Err(Fault::NotComplete);
         };
         let mut requests = Vec::new(self.alloc);
-        requests.reserve(self.held.count(epoch, self.partitions))?;
-        self.held.append_all(epoch, self.partitions, &mut requests);
+        requests.reserve(self.held.count(epoch, self.config.partitions))?;
+        self.held.append_all(epoch, &self.config, &mut requests);
         Ok(requests)
     }
 
@@ -196,7 +199,8 @@ impl<Args: Copy> Merge<Args> {
         ensures succeeds { IsReady self.old → IsOk result }
     {
         if let Some(epoch) = self.next {
-            self.ready.reserve(self.held.count(epoch, self.partitions))?;
+            self.ready
+                .reserve(self.held.count(epoch, self.config.partitions))?;
         }
         Ok(())
     }

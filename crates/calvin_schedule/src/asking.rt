@@ -5,11 +5,9 @@ ghost use Rattle.calvin_schedule.specs.Quiet.{LeadsQuietly};
 use crate::stepping::happen;
 use crate::working::{Crew, ready_after};
 use calvin_app::App;
-use calvin_lock::QueueLocks;
 use calvin_node::Act;
-use calvin_store::PlainRows;
 use calvin_types::{Config, Fault, NodeId, Slot};
-use calvin_world::{Event, World};
+use calvin_world::{Event, StoreWorld};
 use std::alloc::Global;
 
 /// So many times packets are delivered until nothing moves, and what is missing is asked for.
@@ -24,11 +22,7 @@ fn first_of(group: u8) -> NodeId {
 }
 
 /// Whether a node stands at the end of so many epochs.
-fn stands<A: App + Drop>(
-    world: &World<A, QueueLocks, PlainRows<A::Row>>,
-    id: NodeId,
-    epochs: u64,
-) -> bool {
+fn stands<A: App + Drop>(world: &StoreWorld<A>, id: NodeId, epochs: u64) -> bool {
     let Some(node) = world.node(id) else {
         return false;
     };
@@ -39,11 +33,7 @@ fn stands<A: App + Drop>(
 }
 
 /// Whether every node stands at the end of so many epochs.
-fn all_stand<A: App + Drop>(
-    world: &World<A, QueueLocks, PlainRows<A::Row>>,
-    crew: &Crew,
-    epochs: u64,
-) -> bool {
+fn all_stand<A: App + Drop>(world: &StoreWorld<A>, crew: &Crew, epochs: u64) -> bool {
     for seat in &crew.seats {
         if !stands(world, seat.id, epochs) {
             return false;
@@ -53,11 +43,7 @@ fn all_stand<A: App + Drop>(
 }
 
 /// Whether a node holds the batch of a slot.
-fn holds<A: App + Drop>(
-    world: &World<A, QueueLocks, PlainRows<A::Row>>,
-    id: NodeId,
-    slot: Slot,
-) -> bool {
+fn holds<A: App + Drop>(world: &StoreWorld<A>, id: NodeId, slot: Slot) -> bool {
     match world.node(id) {
         Some(node) => node.held(slot).is_some(),
         None => false,
@@ -67,7 +53,7 @@ fn holds<A: App + Drop>(
 /// A new ballot is begun for each batch of an epoch that isn't decided.
 #[tactic(auto, using(crate::proofs::Leading::quiet_here, crate::proofs::Leading::quiet_then))]
 fn propose_epoch<A: App + Drop>(
-    world: &mut World<A, QueueLocks, PlainRows<A::Row>>,
+    world: &mut StoreWorld<A>,
     partitions: u8,
     epoch: u64,
 ) -> Result<(), Fault>
@@ -83,7 +69,7 @@ fn propose_epoch<A: App + Drop>(
 /// A node asks replica 0 for the batches of an epoch that it doesn't hold, and replica 0 does.
 #[tactic(auto, using(crate::proofs::Leading::quiet_here, crate::proofs::Leading::quiet_then))]
 fn ask_for_epoch<A: App + Drop>(
-    world: &mut World<A, QueueLocks, PlainRows<A::Row>>,
+    world: &mut StoreWorld<A>,
     id: NodeId,
     partitions: u8,
     epoch: u64,
@@ -103,10 +89,7 @@ fn ask_for_epoch<A: App + Drop>(
 
 /// A node asks replica 0 for the rows that it awaits.
 #[tactic(auto, using(crate::proofs::Leading::quiet_here, crate::proofs::Leading::quiet_then))]
-fn ask_for_rows<A: App + Drop>(
-    world: &mut World<A, QueueLocks, PlainRows<A::Row>>,
-    id: NodeId,
-) -> Result<(), Fault>
+fn ask_for_rows<A: App + Drop>(world: &mut StoreWorld<A>, id: NodeId) -> Result<(), Fault>
     ensures quiet { LeadsQuietly A.meaning world.old world.new }
     ensures only { IsOkUnless result Fault.OutOfMemory }
 {
@@ -124,7 +107,7 @@ fn ask_for_rows<A: App + Drop>(
 /// A node asks for all that it lacks of so many epochs.
 #[tactic(auto, using(crate::proofs::Leading::quiet_here, crate::proofs::Leading::quiet_then))]
 fn ask_at<A: App + Drop>(
-    world: &mut World<A, QueueLocks, PlainRows<A::Row>>,
+    world: &mut StoreWorld<A>,
     id: NodeId,
     partitions: u8,
     epochs: u64,
@@ -141,7 +124,7 @@ fn ask_at<A: App + Drop>(
 /// Ballots are begun for all batches that aren't decided, and each node asks for all that it lacks of so many epochs.
 #[tactic(auto, using(crate::proofs::Leading::quiet_here, crate::proofs::Leading::quiet_then))]
 fn ask<A: App + Drop>(
-    world: &mut World<A, QueueLocks, PlainRows<A::Row>>,
+    world: &mut StoreWorld<A>,
     crew: &Crew,
     partitions: u8,
     epochs: u64,
@@ -171,7 +154,7 @@ enum Round {
 /// of so many epochs.
 #[tactic(auto, using(crate::proofs::Leading::quiet_here, crate::proofs::Leading::quiet_then))]
 fn pass<A: App + Drop>(
-    world: &mut World<A, QueueLocks, PlainRows<A::Row>>,
+    world: &mut StoreWorld<A>,
     crew: &mut Crew,
     partitions: u8,
     epochs: u64,
@@ -192,7 +175,7 @@ fn pass<A: App + Drop>(
 #[tactic(auto, using(crate::proofs::Leading::quiet_here, crate::proofs::Leading::quiet_then))]
 pub fn bring_on<A: App + Drop>(
     alloc: Global,
-    world: &mut World<A, QueueLocks, PlainRows<A::Row>>,
+    world: &mut StoreWorld<A>,
     config: &Config,
     epochs: u64,
 ) -> Result<(), Fault>

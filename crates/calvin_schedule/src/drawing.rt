@@ -1,5 +1,5 @@
 //! Events that are drawn.
-ghost use Rattle.std.specs.Prelude.{◌≡◌, true, IsOkUnless};
+ghost use Rattle.std.specs.Prelude.{◌≡◌, true, IfSome, IsOkUnless};
 ghost use Rattle.calvin_types.specs.declared.place.NodeId.{NodeId};
 ghost use Rattle.calvin_world.specs.declared.event.Event.TheVariants.{At};
 ghost use Rattle.calvin_schedule.specs.Quiet.{is_quiet, LeadsQuietly};
@@ -7,11 +7,10 @@ ghost use Rattle.calvin_schedule.specs.Quiet.{is_quiet, LeadsQuietly};
 use crate::schedule::{Restarts, Schedule};
 use crate::stepping::{happen, sent};
 use calvin_app::App;
-use calvin_lock::QueueLocks;
 use calvin_node::Act;
-use calvin_store::PlainRows;
-use calvin_types::{Config, Fault, NodeId, Place, Slot};
-use calvin_world::{Event, World};
+use calvin_store::Rows;
+use calvin_types::{Config, Fault, Key, NodeId, Place, Slot};
+use calvin_world::{Event, StoreWorld};
 use rand_core::utils::NextWord;
 use rand_pcg::Lcg64Xsh32;
 
@@ -22,11 +21,12 @@ const STREAM: u64 = 54;
 const RECENT: u32 = 64;
 
 /// How far a node has come: the least place whose request has its locks and isn't done, and the last epoch at whose end it
-/// stands; the first ones, where there are none.
+/// stands, the first ones where there are none; and the epoch of the point that is open.
 #[derive(Clone, Copy)]
 struct Front {
     place: Place,
     epoch: u64,
+    marked: Option<u64>,
 }
 
 /// From what events are drawn: a generator, the nodes that there are, how many epochs were closed, and whether nodes
@@ -109,32 +109,65 @@ impl Drawing {
         }
     }
 
-    /// An event of a world: more often than not the delivery of a packet.
-    fn draw_event<A: App + Drop>(
+    /// A key that a node stores: one that a request writes whose batch it holds.
+    fn draw_key<A: App + Drop>(&mut self, world: &StoreWorld<A>, id: NodeId) -> Option<Key> {
+        let slot = self.draw_slot();
+        let batch = world.node(id)?.held(slot)?;
+        let txn = batch.get(self.draw_index(batch.len()))?;
+        let keys = txn.sets.writes.part(&self.config, id.partition);
+        keys.get(self.draw_index(keys.len()))
+    }
+
+    /// Where nodes restart, what they do with their rows beside requests: a point is opened where the node stands, a snapshot
+    /// of the point is taken, or a row cools.
+    fn draw_act_on_rows<A: App + Drop>(
         &mut self,
-        world: &World<A, QueueLocks, PlainRows<A::Row>>,
-    ) -> Event<A::Args>
+        world: &StoreWorld<A>,
+        id: NodeId,
+        front: Front,
+    ) -> Option<Act<A::Args>>
+        ensures { (at : NodeId) → IfSome result (λ act. is_quiet (At at act) ≡ true) }
+    {
+        if self.restarts == Restarts::Never {
+            return None;
+        }
+        match self.draw(16) {
+            0 => Some(Act::Mark(front.epoch)),
+            1 | 2 => Some(Act::Snapshot(front.marked?)),
+            3..=6 => Some(Act::Cool(self.draw_key(world, id)?)),
+            _ => None,
+        }
+    }
+
+    /// An event of a world: more often than not the delivery of a packet.
+    fn draw_event<A: App + Drop>(&mut self, world: &StoreWorld<A>) -> Event<A::Args>
         ensures { is_quiet result ≡ true }
     {
         if self.draw(3) > 0 {
             return Event::Deliver(self.draw_packet(sent(world)));
         }
         let id = self.draw_node();
-        Event::At(id, self.draw_act(id, front_of(world, id)))
+        let front = front_of(world, id);
+        match self.draw_act_on_rows(world, id, front) {
+            Some(act) => Event::At(id, act),
+            None => Event::At(id, self.draw_act(id, front)),
+        }
     }
 }
 
 /// How far a node has come.
-fn front_of<A: App + Drop>(world: &World<A, QueueLocks, PlainRows<A::Row>>, id: NodeId) -> Front {
+fn front_of<A: App + Drop>(world: &StoreWorld<A>, id: NodeId) -> Front {
     let first = Place { epoch: 0, n: 0 };
     match world.node(id) {
         Some(node) => Front {
             place: node.first_ready(None).unwrap_or(first),
             epoch: node.stands_at().unwrap_or(0),
+            marked: node.rows().marked(),
         },
         None => Front {
             place: first,
             epoch: 0,
+            marked: None,
         },
     }
 }
@@ -143,7 +176,7 @@ fn front_of<A: App + Drop>(world: &World<A, QueueLocks, PlainRows<A::Row>>, id: 
 /// opened with. Refused with `OutOfMemory` alone.
 #[tactic(auto, using(crate::proofs::Leading::quiet_here, crate::proofs::Leading::quiet_then))]
 pub fn draw_events<A: App + Drop>(
-    world: &mut World<A, QueueLocks, PlainRows<A::Row>>,
+    world: &mut StoreWorld<A>,
     config: &Config,
     epochs: u64,
     schedule: &Schedule,

@@ -7,7 +7,7 @@ use calvin_types::MOST_REPLICAS;
 /// The most events that are drawn.
 pub const MOST_STEPS: u32 = 100_000;
 
-/// Whether nodes restart.
+/// Whether nodes restart. Where some do, nodes also open points of consistency and take snapshots of them, and rows cool.
 #[derive(Clone, Copy, Debug, PartialEq, Eq)]
 pub enum Restarts {
     /// None does.

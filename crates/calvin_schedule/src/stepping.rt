@@ -3,15 +3,13 @@ ghost use Rattle.std.specs.Prelude.{◌≡◌, true, IsOkUnless};
 ghost use Rattle.calvin_schedule.specs.Quiet.{is_quiet, LeadsQuietly};
 
 use calvin_app::App;
-use calvin_lock::QueueLocks;
 use calvin_packets::Address;
-use calvin_store::PlainRows;
 use calvin_types::{Fault, NodeId};
-use calvin_world::{Event, Outcome, World};
+use calvin_world::{Event, Outcome, StoreWorld};
 
 /// Lets an event happen that submits and closes nothing, and says how it ended. Refused with `OutOfMemory` alone.
 pub(crate) fn happen<A: App + Drop>(
-    world: &mut World<A, QueueLocks, PlainRows<A::Row>>,
+    world: &mut StoreWorld<A>,
     event: &Event<A::Args>,
 ) -> Result<Outcome, Fault>
     requires { is_quiet event.now ≡ true }
@@ -26,15 +24,12 @@ pub(crate) fn happen<A: App + Drop>(
 }
 
 /// How many packets were sent so far.
-pub(crate) fn sent<A: App + Drop>(world: &World<A, QueueLocks, PlainRows<A::Row>>) -> usize {
+pub(crate) fn sent<A: App + Drop>(world: &StoreWorld<A>) -> usize {
     world.packets().len()
 }
 
 /// The node that the packet of a number is for: none, where it is for a client, or no packet has the number.
-pub(crate) fn addressee<A: App + Drop>(
-    world: &World<A, QueueLocks, PlainRows<A::Row>>,
-    number: usize,
-) -> Option<NodeId> {
+pub(crate) fn addressee<A: App + Drop>(world: &StoreWorld<A>, number: usize) -> Option<NodeId> {
     match world.packets().get(number)?.to {
         Address::AtNode(id) => Some(id),
         Address::AtClient(_) => None,

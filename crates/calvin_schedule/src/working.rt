@@ -4,11 +4,9 @@ ghost use Rattle.calvin_schedule.specs.Quiet.{is_quiet, LeadsQuietly};
 
 use crate::stepping::{addressee, happen, sent};
 use calvin_app::App;
-use calvin_lock::QueueLocks;
 use calvin_node::Act;
-use calvin_store::PlainRows;
 use calvin_types::{Config, Fault, NodeId, Place};
-use calvin_world::{Event, Outcome, World};
+use calvin_world::{Event, Outcome, StoreWorld};
 use std::alloc::Global;
 
 /// A node, and whether something reached it since it last worked.
@@ -58,7 +56,7 @@ impl Crew {
     #[tactic(auto, using(crate::proofs::Leading::quiet_here, crate::proofs::Leading::quiet_then))]
     fn deliver<A: App + Drop>(
         &mut self,
-        world: &mut World<A, QueueLocks, PlainRows<A::Row>>,
+        world: &mut StoreWorld<A>,
         number: usize,
     ) -> Result<(), Fault>
         ensures quiet { LeadsQuietly A.meaning world.old world.new }
@@ -75,10 +73,7 @@ impl Crew {
 
     /// Delivers the packets that were sent so far and not delivered here yet.
     #[tactic(auto, using(crate::proofs::Leading::quiet_here, crate::proofs::Leading::quiet_then))]
-    fn deliver_sent<A: App + Drop>(
-        &mut self,
-        world: &mut World<A, QueueLocks, PlainRows<A::Row>>,
-    ) -> Result<(), Fault>
+    fn deliver_sent<A: App + Drop>(&mut self, world: &mut StoreWorld<A>) -> Result<(), Fault>
         ensures quiet { LeadsQuietly A.meaning world.old world.new }
         ensures only { IsOkUnless result Fault.OutOfMemory }
     {
@@ -92,10 +87,7 @@ impl Crew {
 
     /// Each node that is to work does, replica by replica; one that merged an epoch is to work again.
     #[tactic(auto, using(crate::proofs::Leading::quiet_here, crate::proofs::Leading::quiet_then))]
-    fn work<A: App + Drop>(
-        &mut self,
-        world: &mut World<A, QueueLocks, PlainRows<A::Row>>,
-    ) -> Result<(), Fault>
+    fn work<A: App + Drop>(&mut self, world: &mut StoreWorld<A>) -> Result<(), Fault>
         ensures quiet { LeadsQuietly A.meaning world.old world.new }
         ensures only { IsOkUnless result Fault.OutOfMemory }
     {
@@ -109,10 +101,7 @@ impl Crew {
 
     /// Packets are delivered, and then the nodes work that they reached.
     #[tactic(auto, using(crate::proofs::Leading::quiet_here, crate::proofs::Leading::quiet_then))]
-    fn turn<A: App + Drop>(
-        &mut self,
-        world: &mut World<A, QueueLocks, PlainRows<A::Row>>,
-    ) -> Result<(), Fault>
+    fn turn<A: App + Drop>(&mut self, world: &mut StoreWorld<A>) -> Result<(), Fault>
         ensures quiet { LeadsQuietly A.meaning world.old world.new }
         ensures only { IsOkUnless result Fault.OutOfMemory }
     {
@@ -121,7 +110,7 @@ impl Crew {
     }
 
     /// Whether nothing is left to do: no packet that wasn't delivered here, and no node that is to work.
-    fn is_idle<A: App + Drop>(&self, world: &World<A, QueueLocks, PlainRows<A::Row>>) -> bool {
+    fn is_idle<A: App + Drop>(&self, world: &StoreWorld<A>) -> bool {
         for seat in &self.seats {
             if seat.is_woken {
                 return false;
@@ -133,10 +122,7 @@ impl Crew {
     /// Packets are delivered and nodes work until nothing is left to do. Each turn but the last delivers a packet or merges an
     /// epoch, and of both there are fewer than 2^63.
     #[tactic(auto, using(crate::proofs::Leading::quiet_here, crate::proofs::Leading::quiet_then))]
-    pub fn work_on<A: App + Drop>(
-        &mut self,
-        world: &mut World<A, QueueLocks, PlainRows<A::Row>>,
-    ) -> Result<(), Fault>
+    pub fn work_on<A: App + Drop>(&mut self, world: &mut StoreWorld<A>) -> Result<(), Fault>
         ensures quiet { LeadsQuietly A.meaning world.old world.new }
         ensures only { IsOkUnless result Fault.OutOfMemory }
     {
@@ -162,10 +148,7 @@ fn id_at(config: &Config, at: usize) -> NodeId {
 /// A node merges the next epoch, if it is decided, and lets all that is merged ask for its locks. Says whether an epoch was
 /// merged.
 #[tactic(auto, using(crate::proofs::Leading::quiet_here, crate::proofs::Leading::quiet_then))]
-fn admit<A: App + Drop>(
-    world: &mut World<A, QueueLocks, PlainRows<A::Row>>,
-    id: NodeId,
-) -> Result<bool, Fault>
+fn admit<A: App + Drop>(world: &mut StoreWorld<A>, id: NodeId) -> Result<bool, Fault>
     ensures quiet { LeadsQuietly A.meaning world.old world.new }
     ensures only { IsOkUnless result Fault.OutOfMemory }
 {
@@ -177,10 +160,7 @@ fn admit<A: App + Drop>(
 /// A node merges and admits what it can of the next epoch; then what is ready runs. Says whether an epoch was merged: there may
 /// be another one.
 #[tactic(auto, using(crate::proofs::Leading::quiet_here, crate::proofs::Leading::quiet_then))]
-fn work_at<A: App + Drop>(
-    world: &mut World<A, QueueLocks, PlainRows<A::Row>>,
-    id: NodeId,
-) -> Result<bool, Fault>
+fn work_at<A: App + Drop>(world: &mut StoreWorld<A>, id: NodeId) -> Result<bool, Fault>
     ensures quiet { LeadsQuietly A.meaning world.old world.new }
     ensures only { IsOkUnless result Fault.OutOfMemory }
 {
@@ -192,10 +172,7 @@ fn work_at<A: App + Drop>(
 /// An event happens again and again until it is refused, as it is once all that was decided is merged, or all that was
 /// merged has asked for its locks: so 2^64 times are enough.
 #[tactic(auto, using(crate::proofs::Leading::quiet_here, crate::proofs::Leading::quiet_then))]
-fn repeat<A: App + Drop>(
-    world: &mut World<A, QueueLocks, PlainRows<A::Row>>,
-    event: &Event<A::Args>,
-) -> Result<(), Fault>
+fn repeat<A: App + Drop>(world: &mut StoreWorld<A>, event: &Event<A::Args>) -> Result<(), Fault>
     requires { is_quiet event.now ≡ true }
     ensures quiet { LeadsQuietly A.meaning world.old world.new }
     ensures only { IsOkUnless result Fault.OutOfMemory }
@@ -212,10 +189,7 @@ fn repeat<A: App + Drop>(
 /// awaits rows. A request that is done gives its locks to later ones only, so one time over them is enough; there are
 /// fewer than 2^64.
 #[tactic(auto, using(crate::proofs::Leading::quiet_here, crate::proofs::Leading::quiet_then))]
-fn run_ready<A: App + Drop>(
-    world: &mut World<A, QueueLocks, PlainRows<A::Row>>,
-    id: NodeId,
-) -> Result<(), Fault>
+fn run_ready<A: App + Drop>(world: &mut StoreWorld<A>, id: NodeId) -> Result<(), Fault>
     ensures quiet { LeadsQuietly A.meaning world.old world.new }
     ensures only { IsOkUnless result Fault.OutOfMemory }
 {
@@ -238,7 +212,7 @@ fn run_ready<A: App + Drop>(
 
 /// The least place of a node after another whose request has its locks and isn't done.
 pub(crate) fn ready_after<A: App + Drop>(
-    world: &World<A, QueueLocks, PlainRows<A::Row>>,
+    world: &StoreWorld<A>,
     id: NodeId,
     after: Option<Place>,
 ) -> Option<Place> {
@@ -252,11 +226,7 @@ fn awaits(outcome: Outcome) -> bool {
 
 /// The request at a place begins, if it has not begun, and is finished if it can be.
 #[tactic(auto, using(crate::proofs::Leading::quiet_here, crate::proofs::Leading::quiet_then))]
-fn run<A: App + Drop>(
-    world: &mut World<A, QueueLocks, PlainRows<A::Row>>,
-    id: NodeId,
-    place: Place,
-) -> Result<Outcome, Fault>
+fn run<A: App + Drop>(world: &mut StoreWorld<A>, id: NodeId, place: Place) -> Result<Outcome, Fault>
     ensures quiet { LeadsQuietly A.meaning world.old world.new }
     ensures only { IsOkUnless result Fault.OutOfMemory }
 {

@@ -1,5 +1,5 @@
 -- What a script is refused with.
-use Rattle.std.proofs.Common.{◌≡◌, Option, Some, None, Result, Ok, Err, refl, ap}
+use Rattle.std.proofs.Common.{Option, Result, Ok, Err, ap}
 use Rattle.std.specs.Prelude.{ok_or}
 use Rattle.calvin_types.specs.declared.fault.Fault.{Fault}
 use Rattle.calvin_types.specs.declared.fault.Fault.TheVariants.{OutOfMemory, BadScript}

@@ -6,6 +6,7 @@
 --     list f d      what f gives of each item of the list d
 --     then_one xs spelled      the list xs, and then what is spelled
 --     optional default f member      what f gives of a member, and the default where the member is left out
+--     where_given f member      what f gives of a member, and none where the member is left out
 use Rattle.std.specs.Prelude.{ℕ, ◌&&◌, List, [], ◌∷◌, ◌++◌, Bool, true, false, nat_lt, nat_le, if◌then◌else◌, Option, Some, None, option_and_then, option_map, bytes_eq}
 use Rattle.std.specs.List.{list_any}
 use Rattle.serde_json.specs.Data.{Data, null, boolean, number, string, array, object, Items, no_items, item, Members, no_members, member}
@@ -59,3 +60,6 @@ list f d = option_and_then (each f) (as_array d)
 abbrev pub optional : {A : Type 0} → A → (Data → Option A) → Option Data → Option A
 optional default f None = Some default
 optional default f (Some d) = f d
+
+abbrev pub where_given : {A : Type 0} → (Data → Option A) → Option Data → Option (Option A)
+where_given f given = optional None (λ d. option_map Some (f d)) given

@@ -1,7 +1,8 @@
 //! What a script says.
-ghost use Rattle.std.specs.Prelude.{◌≤◌, length};
+ghost use Rattle.std.specs.Prelude.{◌<◌, ◌≤◌, length};
+ghost use Rattle.std.specs.Option.{ForSome};
 ghost use Rattle.calvin_types.specs.Limits.{IsInRange};
-ghost use Rattle.calvin_types.specs.declared.limits.TheConstants.{MOST_REQUESTS};
+ghost use Rattle.calvin_types.specs.declared.limits.TheConstants.{MOST_EPOCHS, MOST_REQUESTS};
 
 use calvin_types::Txn;
 
@@ -27,10 +28,13 @@ pub struct Epoch<R> {
     pub batches: Vec<GroupBatch<R>>,
 }
 
-/// A script: how many partitions there are, and the epochs from 0 on.
+/// A script: how many partitions there are, the first epoch (0 to 2^48 - 1) whose batches are woven, if there is one, and the
+/// epochs from 0 on.
 #[derive(Debug, Drop, PartialEq, Eq)]
 pub struct Script<R> {
     pub partitions: u8,
+    pub woven_from: Option<u64>,
     pub epochs: Vec<Epoch<R>>,
     ghost in_range: { IsInRange partitions 1 },
+    ghost woven_in_range: { ForSome woven_from (λ epoch. epoch < MOST_EPOCHS) },
 }

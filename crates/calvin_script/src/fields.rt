@@ -1,9 +1,12 @@
 //! Members and numbers.
-ghost use Rattle.std.specs.Prelude.{◌≡◌, ◌^◌, map, bytes_eq};
+ghost use Rattle.std.specs.Prelude.{◌≡◌, ◌<◌, ◌^◌, IfSome, map, bytes_eq, option_map};
 ghost use Rattle.std.specs.List.{list_any};
+ghost use Rattle.std.specs.Option.{ForSome};
 ghost use Rattle.serde_json.specs.View.{view, members_view};
-ghost use Rattle.calvin_script.specs.Spelling.{has_only, are_named, below, between};
+ghost use Rattle.calvin_types.specs.declared.limits.TheConstants.{MOST_EPOCHS};
+ghost use Rattle.calvin_script.specs.Spelling.{has_only, are_named, below, between, where_given};
 
+use calvin_types::MOST_EPOCHS;
 use serde_json::{Map, Value};
 
 /// Whether it is one of these names.
@@ -71,5 +74,32 @@ pub fn between(least: u8, most: u8, value: &Value) -> Option<u8>
         Some(n as u8)
     } else {
         None
+    }
+}
+
+/// The number of an epoch, which is below 2^48.
+pub fn epoch_of(value: &Value) -> Option<u64>
+    ensures { result ≡ below MOST_EPOCHS (view value.now) }
+{
+    let epoch = value.as_u64()?;
+    if epoch < MOST_EPOCHS {
+        Some(epoch)
+    } else {
+        None
+    }
+}
+
+/// The first epoch whose batches are woven, of a member that may be left out: then there is none. There is no answer where
+/// the member is no number of an epoch.
+pub fn first_woven(value: Option<&Value>) -> Option<Option<u64>>
+    ensures given { result ≡ where_given (below MOST_EPOCHS) (option_map (λ v. view v.now) value.entry) }
+    ensures in_range { IfSome result (λ woven_from. ForSome woven_from (λ epoch. epoch < MOST_EPOCHS)) }
+{
+    match value {
+        None => Some(None),
+        Some(value) => {
+            let epoch = epoch_of(value)?;
+            Some(Some(epoch))
+        }
     }
 }

@@ -17,7 +17,7 @@ mod script;
 mod stock;
 
 pub use contents::{Epoch, GroupBatch, Request, Script};
-pub use fields::{between, has_only, u8_of, u32_of};
+pub use fields::{between, epoch_of, first_woven, has_only, u8_of, u32_of};
 pub use kept::Kept;
 pub use key_list::{KeyForm, WholeKey, read_key_set};
 pub use kv::RowNumber;

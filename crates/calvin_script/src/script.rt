@@ -1,13 +1,15 @@
 //! Batches, epochs and the whole script.
-ghost use Rattle.std.specs.Prelude.{◌≡◌, map, nat_eq, option_map};
+ghost use Rattle.std.specs.Prelude.{◌≡◌, ◌<◌, map, nat_eq, option_map};
 ghost use Rattle.std.specs.List.{list_all, list_any};
+ghost use Rattle.std.specs.Option.{ForSome};
 ghost use Rattle.serde_json.specs.View.{view};
 ghost use Rattle.calvin_types.specs.Limits.{IsInRange};
+ghost use Rattle.calvin_types.specs.declared.limits.TheConstants.{MOST_EPOCHS};
 ghost use Rattle.calvin_script.specs.Scripts.{are_taken, listed, all_listed, batch_of, contents, groups_fit, script, script_of};
 ghost use Rattle.calvin_script.specs.Gives.{Gives};
 
 use crate::contents::{Epoch, GroupBatch, Script};
-use crate::fields::{between, has_only, u8_of};
+use crate::fields::{between, first_woven, has_only, u8_of};
 use crate::kept::Kept;
 use crate::list::{Spelled, list_of};
 use crate::operation::Operation;
@@ -124,16 +126,25 @@ fn all_groups_fit<Op: Operation>(partitions: u8, epochs: &[Epoch<Kept<Op>>]) -> 
 }
 
 impl<Op: Operation> Script<Kept<Op>> {
-    /// The script of these epochs, for so many partitions: none that lists a batch for a group that is no partition, or
-    /// two for one group in an epoch.
-    pub fn new(partitions: u8, epochs: Vec<Epoch<Kept<Op>>>) -> Option<Script<Kept<Op>>>
-        requires { IsInRange partitions 1 }
-        ensures { option_map contents result ≡ script_of partitions (map all_listed epochs.items) }
+    /// The script of these epochs, for so many partitions and with this first woven epoch: none that lists a batch for a
+    /// group that is no partition, or two for one group in an epoch.
+    pub fn new(
+        partitions: u8,
+        woven_from: Option<u64>,
+        epochs: Vec<Epoch<Kept<Op>>>,
+    ) -> Option<Script<Kept<Op>>>
+        requires in_range { IsInRange partitions 1 }
+        requires woven_in_range { ForSome woven_from (λ epoch. epoch < MOST_EPOCHS) }
+        ensures { option_map contents result ≡ script_of partitions woven_from (map all_listed epochs.items) }
     {
         if !all_groups_fit(partitions, &epochs) {
             return None;
         }
-        Some(Script { partitions, epochs })
+        Some(Script {
+            partitions,
+            woven_from,
+            epochs,
+        })
     }
 }
 
@@ -145,7 +156,7 @@ pub(crate) fn script_of<Op: Operation>(
 ) -> Result<Script<Kept<Op>>, Fault>
     ensures { Gives contents result (script Op.grammar (view value)) }
 {
-    if !has_only(&value, &["partitions", "app", "epochs"]) {
+    if !has_only(&value, &["partitions", "app", "woven_from", "epochs"]) {
         return Err(Fault::BadScript);
     }
     let partitions = value.get("partitions").ok_or(Fault::BadScript)?;
@@ -155,7 +166,8 @@ pub(crate) fn script_of<Op: Operation>(
     if app != Op::app_name() {
         return Err(Fault::BadScript);
     }
+    let woven_from = first_woven(value.get("woven_from")).ok_or(Fault::BadScript)?;
     let epochs = value.get_mut("epochs").ok_or(Fault::BadScript)?.take();
     let epochs = list_of(alloc, epochs)?;
-    Script::new(partitions, epochs).ok_or(Fault::BadScript)
+    Script::new(partitions, woven_from, epochs).ok_or(Fault::BadScript)
 }

@@ -12,3 +12,5 @@ mod engine;
 mod spelled;
 #[cfg(test)]
 mod twice;
+#[cfg(test)]
+mod woven;

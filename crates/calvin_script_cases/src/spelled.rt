@@ -98,13 +98,14 @@ fn whole(
     }
     Ok(Script {
         partitions: script.partitions,
+        woven_from: script.woven_from,
         epochs,
     })
 }
 
 #[test]
 fn a_script_in_full(rt: HostRuntime) -> Result<(), Fail> {
-    let text = r#"{"partitions":2,"app":"kv","epochs":[
+    let text = r#"{"partitions":2,"app":"kv","woven_from":3,"epochs":[
         [{"group":1,"txns":[
             {"client":7,"number":1,"op":["put",5,9]},
             {"op":["get",[5,2]],"number":2,"client":7},
@@ -127,6 +128,7 @@ fn a_script_in_full(rt: HostRuntime) -> Result<(), Fail> {
     ]?;
     let expected = Script {
         partitions: 2,
+        woven_from: Some(3),
         epochs,
     };
     let found = script_from::<KvRequest>(alloc, text.as_bytes())?;

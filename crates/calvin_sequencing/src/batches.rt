@@ -59,7 +59,7 @@ impl<A: App> SequencingLayer<A> {
 
     /// Whether there is such a node, and such a slot.
     fn is_there(&self, of: NodeId, slot: Slot) -> bool
-        ensures { result ≡ (nat_lt of.replica self.now.replicas && nat_lt of.partition self.now.partitions && nat_lt slot.group self.now.partitions) }
+        ensures { result ≡ (nat_lt of.replica self.now.config.replicas && nat_lt of.partition self.now.config.partitions && nat_lt slot.group self.now.config.partitions) }
     {
         of.replica < self.config.replicas
             && of.partition < self.config.partitions

@@ -1,6 +1,7 @@
 //! One sequencing layer.
 ghost use Rattle.std.specs.Prelude.{◌≡◌, ◌^◌, length, MatchOption};
 ghost use Rattle.std.specs.Option.{unwrap_or};
+ghost use Rattle.calvin_order.specs.Configs.{order_config};
 ghost use Rattle.calvin_order.specs.Sequencing.{next_epoch};
 ghost use Rattle.calvin_synod.specs.Cases.{fresh, replica_from};
 ghost use Rattle.calvin_acts.specs.Layers.{opened_layer};
@@ -37,15 +38,15 @@ impl<A: App> Model for SequencingLayer<A> {
 
     ghost coded = { Prim.hlevel (codes, code) };
 
-    ghost view = { λ l. layer_of l.config.partitions l.config.replicas l.id l.member l.sequencer l.merge };
+    ghost view = { λ l. layer_of l.config l.id l.member l.sequencer l.merge };
 
-    ghost invariant = { λ l. IsLayer l.config.partitions l.config.replicas l.id l.member l.merge };
+    ghost invariant = { λ l. IsLayer l.config l.id l.member l.merge };
 }
 
 impl<A: App> SequencingLayer<A> {
     /// The layer of a node at first: nothing is submitted, promised or held.
     pub fn new(alloc: Global, config: &Config, id: NodeId) -> SequencingLayer<A>
-        ensures { result ≡ opened_layer config.now.partitions config.now.replicas config.now.delay id fresh 0 }
+        ensures { result ≡ opened_layer (order_config config.now) id fresh 0 }
     {
         SequencingLayer {
             alloc,
@@ -66,7 +67,7 @@ impl<A: App> SequencingLayer<A> {
         kept: SynodRecord<A::Args>,
         first: Option<u64>,
     ) -> SequencingLayer<A>
-        ensures { result ≡ opened_layer config.now.partitions config.now.replicas config.now.delay id (replica_from kept.acceptor kept.used) (unwrap_or first (2 ^ 64)) }
+        ensures { result ≡ opened_layer (order_config config.now) id (replica_from kept.acceptor kept.used) (unwrap_or first (2 ^ 64)) }
     {
         SequencingLayer {
             alloc,
@@ -80,7 +81,7 @@ impl<A: App> SequencingLayer<A> {
 
     /// Loses all but the promises, the votes and the greatest round used, and goes on from this epoch.
     pub fn restart(&mut self, first: Option<u64>)
-        ensures { self.new ≡ opened_layer self.old.partitions self.old.replicas self.old.delay self.old.id (replica_from self.old.synod.acceptor self.old.synod.proposer.used) (unwrap_or first (2 ^ 64)) }
+        ensures { self.new ≡ opened_layer self.old.config self.old.id (replica_from self.old.synod.acceptor self.old.synod.proposer.used) (unwrap_or first (2 ^ 64)) }
     {
         self.member.restart();
         self.sequencer = Sequencer::from_epoch(self.alloc, self.sequencer.delay(), first);
@@ -101,10 +102,12 @@ impl<A: App> SequencingLayer<A> {
         self.id
     }
 
-    /// How many partitions and replicas its store is opened with; of the delay nothing is said.
+    /// How many partitions and replicas its store is opened with, and from when on batches are woven; of the delay nothing is
+    /// said.
     pub fn config(&self) -> &Config
-        ensures partitions { result.now.partitions ≡ self.now.partitions }
-        ensures replicas { result.now.replicas ≡ self.now.replicas }
+        ensures partitions { result.now.partitions ≡ self.now.config.partitions }
+        ensures replicas { result.now.replicas ≡ self.now.config.replicas }
+        ensures woven_from { result.now.woven_from ≡ self.now.config.woven_from }
     {
         &self.config
     }

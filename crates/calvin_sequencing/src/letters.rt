@@ -66,7 +66,7 @@ impl<A: App> SequencingLayer<A> {
         message: &Message<Batch<A::Args>>,
         outbox: &mut Outbox<A>,
     ) -> Result<(), Fault>
-        requires { given_by (cases.handle self.old.replicas from message.now self.old.synod) ≡ None }
+        requires { given_by (cases.handle self.old.config.replicas from message.now self.old.synod) ≡ None }
         ensures did { LayerDid (message_grows message.now) result (λ n. handling.by_synod n.config n.state (cases.handle n.config.replicas from message.now n.state.synod)) self.old self.new outbox.old.packets outbox.new.packets }
         ensures of { IsOf self.old self.new }
     {
@@ -110,7 +110,7 @@ impl<A: App> SequencingLayer<A> {
         requires vote { vote.now ≡ Accepted slot ballot batch.now }
         requires free { map.get self.old.held slot ≡ None }
         requires new { knows self.old.synod.learner from slot ballot ≡ false }
-        requires last { completes self.old.replicas self.old.synod.learner slot ballot ≡ true }
+        requires last { completes self.old.config.replicas self.old.synod.learner slot ballot ≡ true }
         ensures did { LayerDid true result (λ n. handling.by_synod n.config n.state (cases.accepted n.config.replicas from n.state.synod slot ballot batch.now)) self.old self.new outbox.old.packets outbox.new.packets }
         ensures of { IsOf self.old self.new }
     {

@@ -9,13 +9,13 @@ use Rattle.calvin_types.specs.Orders.{Order}
 use Rattle.calvin_app.specs.Rows.{Rows}
 use Rattle.calvin_app.specs.Meaning.{Meaning}
 use Rattle.calvin_app.specs.Serial.{serial, after_one, answer_one}
-use Rattle.calvin_order.specs.Configs.{merged, stretch, unwoven}
+use Rattle.calvin_order.specs.Configs.{merged, stretch}
 use Rattle.calvin_script.specs.Scripts.{Contents, requests_at, batch_at}
 use Rattle.calvin_script.specs.Reading.{and_then}
 use Rattle.calvin_text.specs.Texts.{line, lines, finished}
 use Rattle.calvin_serial.specs.declared.undeclared.UndeclaredSets.{UndeclaredSets}
 use Rattle.calvin_serial.specs.declared.undeclared.UndeclaredSets.TheVariants.{First, Scouted}
-use Rattle.calvin_serial.specs.Scouting.{scouted_epoch, scouted_order, order_of, RunsOn}
+use Rattle.calvin_serial.specs.Scouting.{serial_config, scouted_epoch, scouted_order, order_of, RunsOn}
 use Rattle.calvin_serial.specs.Engine.{text_of}
 
 module _ {Args Row Reply : Type 0} (m : Meaning Args Row Reply) (show : Reply → List ℕ) where
@@ -45,12 +45,12 @@ module _ {Args Row Reply : Type 0} (m : Meaning Args Row Reply) (show : Reply �
 
   -- the merged requests of epoch e, over the rows before it
   abbrev pub epoch_order : Rows Row → ℕ → UndeclaredSets → Result (Order Args) Fault
-  epoch_order rows e First = Ok (merged (unwoven script.partitions) (batch_at script) e)
-  epoch_order rows e Scouted = scouted_epoch m rows (merged (unwoven script.partitions) (requests_at script) e)
+  epoch_order rows e First = Ok (merged (serial_config script) (batch_at script) e)
+  epoch_order rows e Scouted = scouted_epoch m rows (merged (serial_config script) (requests_at script) e)
 
   -- the order of n epochs from e on
   abbrev pub rest_of : Rows Row → ℕ → ℕ → UndeclaredSets → Result (Order Args) Fault
-  rest_of rows e n First = Ok (stretch (unwoven script.partitions) (batch_at script) e n)
+  rest_of rows e n First = Ok (stretch (serial_config script) (batch_at script) e n)
   rest_of rows e n Scouted = scouted_order m script rows e n
 
   -- a text with the lines of n epochs from e on
@@ -59,7 +59,7 @@ module _ {Args Row Reply : Type 0} (m : Meaning Args Row Reply) (show : Reply �
 
   rest_more : (kind : UndeclaredSets) (rows : Rows Row) (e n : ℕ) (placed : Order Args) → epoch_order rows e kind ≡ Ok placed
       → rest_of rows e (suc n) kind ≡ and_then (rest_of (serial m (map (λ e. e.1) placed) rows).0 (suc e) n kind) (λ later. Ok (placed ++ later))
-  rest_more First rows e n placed is = ap (λ r. and_then r (λ here. Ok (here ++ stretch (unwoven script.partitions) (batch_at script) (suc e) n))) is
+  rest_more First rows e n placed is = ap (λ r. and_then r (λ here. Ok (here ++ stretch (serial_config script) (batch_at script) (suc e) n))) is
   rest_more Scouted rows e n placed is = ap (λ r. and_then r (λ here. and_then (scouted_order m script (serial m (map (λ e. e.1) here) rows).0 (suc e) n) (λ later. Ok (here ++ later)))) is
 
   module _ (rows new : Rows Row) (text longer : List ℕ) where

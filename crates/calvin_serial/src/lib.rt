@@ -3,6 +3,7 @@
 
 mod engine;
 mod listed;
+mod order;
 mod scouted;
 mod text;
 mod undeclared;

@@ -1,13 +1,13 @@
 //! The lines of a serial run whose undeclared sets are scouted.
 ghost use Rattle.std.specs.Prelude.{◌≡◌, Ok, IfOk, IsOkAnd, OnOk, IsOkUnless};
-ghost use Rattle.calvin_order.specs.Configs.{merged, unwoven};
+ghost use Rattle.calvin_order.specs.Configs.{merged};
 ghost use Rattle.calvin_script.specs.Scripts.{contents, requests_at};
-ghost use Rattle.calvin_serial.specs.Scouting.{scouted_txn, scouted_epoch, RunsOn};
+ghost use Rattle.calvin_serial.specs.Scouting.{serial_config, scouted_txn, scouted_epoch, RunsOn};
 
 use crate::listed::ListedBatches;
+use crate::order::requests_in;
 use crate::text::push_request;
 use calvin_app::{Answer, Serial, Settles, Table, View, Writes};
-use calvin_order::EpochRequests;
 use calvin_recon::settled_sets;
 use calvin_script::{Kept, Operation, Script};
 use calvin_text::Printed;
@@ -37,12 +37,12 @@ fn scouted_epoch<A: Settles>(
 ) -> Result<Vec<(Place, Txn<A::Args>)>, Fault>
 where
     A::Args: Operation,
-    ensures scouted { IfOk result (λ placed. scouted_epoch A.meaning rows.now (merged (unwoven script.now.partitions) (requests_at (contents script.now)) epoch) ≡ Ok placed.items) }
+    ensures scouted { IfOk result (λ placed. scouted_epoch A.meaning rows.now (merged (serial_config (contents script.now)) (requests_at (contents script.now)) epoch) ≡ Ok placed.items) }
     ensures only { IsOkUnless result Fault.OutOfMemory }
 {
     let mut scouted = Vec::new(alloc);
     let listed = ListedBatches { script };
-    for (place, request) in EpochRequests::new(&listed, epoch as u64, script.partitions) {
+    for (place, request) in requests_in(&listed, epoch) {
         scouted.push((place, scouted_txn(app, rows, request)))?;
     }
     Ok(scouted)
@@ -61,7 +61,7 @@ pub(crate) fn push_scouted_epoch<A: Settles>(
 where
     A::Args: Operation,
     A::Reply: Printed,
-    ensures ok { OnOk result (IsOkAnd (scouted_epoch A.meaning store.old (merged (unwoven script.now.partitions) (requests_at (contents script.now)) epoch)) (λ placed.
+    ensures ok { OnOk result (IsOkAnd (scouted_epoch A.meaning store.old (merged (serial_config (contents script.now)) (requests_at (contents script.now)) epoch)) (λ placed.
         RunsOn A.meaning A.Reply.printed placed store.old store.new text.old.items text.new.items)) }
     ensures only { IsOkUnless result Fault.OutOfMemory }
 {

@@ -1,13 +1,14 @@
 //! The lines of a serial run.
-ghost use Rattle.std.specs.Prelude.{◌≡◌, ◌<◌, ◌++◌, OnOk, IsOkUnless, length};
+ghost use Rattle.std.specs.Prelude.{◌≡◌, ◌<◌, ◌++◌, OnOk, IsOkUnless, length, map};
 ghost use Rattle.calvin_app.specs.Serial.{answer_one, after_one};
-ghost use Rattle.calvin_order.specs.Configs.{merged, unwoven};
+ghost use Rattle.calvin_order.specs.Configs.{merged};
 ghost use Rattle.calvin_script.specs.Scripts.{contents, batch_at};
 ghost use Rattle.calvin_text.specs.Texts.{line};
 ghost use Rattle.calvin_serial.specs.FirstSets.{NeedsFirst};
-ghost use Rattle.calvin_serial.specs.Scouting.{RunsOn};
+ghost use Rattle.calvin_serial.specs.Scouting.{serial_config, placed_txn, RunsOn};
 
 use crate::listed::ListedBatches;
+use crate::order::{is_woven, joined_requests, requests_in};
 use calvin_app::{Answer, App, Serial, View, Writes};
 use calvin_order::EpochRequests;
 use calvin_script::{Kept, Operation, Script};
@@ -65,7 +66,9 @@ where
     Ok(())
 }
 
-/// Runs one request of a script where it stands, and adds its line.
+/// Runs one request of a script where it stands, and adds its line. It is put in both loops over the requests of an epoch, as
+/// it was where there was one.
+#[inline(always)]
 fn push_kept<A: App>(
     store: &mut Serial<A>,
     place: Place,
@@ -89,6 +92,34 @@ where
     Ok(())
 }
 
+/// Runs requests of a script where they stand, one after another, and adds a line for each.
+#[inline(always)]
+fn push_requests<A: App>(
+    store: &mut Serial<A>,
+    requests: EpochRequests<'_, Kept<A::Args>, ListedBatches<'_, Kept<A::Args>>>,
+    seen: &mut View<A::Row>,
+    answer: &mut Answer<A::Reply>,
+    writes: &mut Writes<A::Row>,
+    text: &mut Vec<u8>,
+) -> Result<(), Fault>
+where
+    A::Args: Operation,
+    A::Reply: Printed,
+    requires first { NeedsFirst A.Args.grammar A.meaning }
+    ensures ok { OnOk result (RunsOn A.meaning A.Reply.printed (map placed_txn requests.entry)
+        store.old store.new text.old.items text.new.items) }
+    ensures only { IsOkUnless result Fault.OutOfMemory }
+{
+    let mut sets = Sets {
+        reads: KeySet::new(),
+        writes: KeySet::new(),
+    };
+    for (place, kept) in requests {
+        push_kept(store, place, kept, &mut sets, seen, answer, writes, text)?;
+    }
+    Ok(())
+}
+
 /// Runs the requests of an epoch of a script, as they stand there, and adds a line for each. One place for sets, one view,
 /// one answer and one place for writes serve all requests.
 pub(crate) fn push_epoch<A: App>(
@@ -105,7 +136,7 @@ where
     A::Reply: Printed,
     requires first { NeedsFirst A.Args.grammar A.meaning }
     requires within { epoch < length script.now.epochs.items }
-    ensures ok { OnOk result (RunsOn A.meaning A.Reply.printed (merged (unwoven script.now.partitions) (batch_at (contents script.now)) epoch)
+    ensures ok { OnOk result (RunsOn A.meaning A.Reply.printed (merged (serial_config (contents script.now)) (batch_at (contents script.now)) epoch)
         store.old store.new text.old.items text.new.items) }
     ensures only { IsOkUnless result Fault.OutOfMemory }
 {
@@ -113,12 +144,10 @@ where
         return Ok(());
     }
     let listed = ListedBatches { script };
-    let mut sets = Sets {
-        reads: KeySet::new(),
-        writes: KeySet::new(),
-    };
-    for (place, kept) in EpochRequests::new(&listed, epoch as u64, script.partitions) {
-        push_kept(store, place, kept, &mut sets, seen, answer, writes, text)?;
+    if is_woven(script, epoch) {
+        let requests = requests_in(&listed, epoch);
+        return push_requests(store, requests, seen, answer, writes, text);
     }
-    Ok(())
+    let requests = joined_requests(&listed, epoch);
+    push_requests(store, requests, seen, answer, writes, text)
 }

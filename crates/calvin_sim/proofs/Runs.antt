@@ -1,5 +1,5 @@
 -- Scripts that are run for the application that they name.
-use Rattle.std.proofs.Common.{◌≡◌, List, ℕ, false, Result, Ok, Err, IfOk, MatchResult, sym, ap, subst, ◌∙◌}
+use Rattle.std.proofs.Common.{◌≡◌, List, ℕ, false, Result, Ok, Err, IfOk, MatchResult, sym, ap, subst, ◌∙◌, None}
 use Rattle.calvin_types.specs.declared.fault.Fault.{Fault}
 use Rattle.calvin_app.specs.declared.kv.KvRequest.{KvRequest}
 use Rattle.calvin_stock.specs.declared.request.StockRequest.{StockRequest}
@@ -12,7 +12,7 @@ use Rattle.calvin_script.specs.StockOperations.{stock_grammar}
 use Rattle.calvin_script.proofs.Apps.{kv_named, stock_named}
 use Rattle.calvin_serial.proofs.Usual.{usual_answer}
 use Rattle.calvin_app.specs.Meaning.{Meaning}
-use Rattle.calvin_acts.specs.Running.{config_of}
+use Rattle.calvin_world.specs.RunningWorlds.{store_config}
 use Rattle.calvin_world.specs.Worlds.{WorldState}
 use Rattle.calvin_sim.specs.Engine.{fitting, fitting_by, fitting_in, IsRun}
 use Rattle.calvin_sim.specs.Simulations.{IsSimulation}
@@ -30,12 +30,12 @@ unfolding script_from
 script_at grammar bytes d c is read = ap (λ r. and_then r (script_in grammar)) is ∙ read
 
 module _ {Args Row Reply X : Type 0} (m : Meaning Args Row Reply) (grammar : Grammar Args) (show : Reply → List ℕ) (replicas : ℕ) (world : X → WorldState Args Row Reply) (text : X → List ℕ) (c : Contents Args) where
-  pub is_run : (bytes : List ℕ) → script_from grammar bytes ≡ Ok c → (result : Result X Fault) → IfOk result (λ r. IsSimulation m (config_of c.partitions replicas false false 0) c (world r))
+  pub is_run : (bytes : List ℕ) → script_from grammar bytes ≡ Ok c → (result : Result X Fault) → IfOk result (λ r. IsSimulation m (store_config c.partitions replicas 0 c.woven_from) c (world r))
       → IfOk result (λ r. IsTold m show (world r) (text r)) → IfOk result (λ r. IsRun m grammar show replicas bytes (world r) (text r))
   is_run bytes read (Ok r) simulation told = record { script = c; read = read; simulation = simulation; told = told }
   is_run bytes read (Err fault) simulation told = tt
 
-  pub is_run_of : (d : Json) → script_in grammar d ≡ Ok c → (result : Result X Fault) → IfOk result (λ r. IsSimulation m (config_of c.partitions replicas false false 0) c (world r))
+  pub is_run_of : (d : Json) → script_in grammar d ≡ Ok c → (result : Result X Fault) → IfOk result (λ r. IsSimulation m (store_config c.partitions replicas 0 c.woven_from) c (world r))
       → IfOk result (λ r. IsTold m show (world r) (text r)) → IfOk result (λ r. (bytes : List ℕ) → json bytes ≡ Ok d → IsRun m grammar show replicas bytes (world r) (text r))
   is_run_of d read (Ok r) simulation told = λ bytes is. record { script = c; read = script_at grammar bytes d c is read; simulation = simulation; told = told }
   is_run_of d read (Err fault) simulation told = tt

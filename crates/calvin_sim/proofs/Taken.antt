@@ -1,5 +1,5 @@
 -- A sequencer takes each request of a script that is read.
-use Rattle.std.proofs.Common.{◌≡◌, ℕ, ◌&&◌, Bool, true, false, List, ◌∷◌, length, Option, Some, None, option_and_then, refl, sym, ap, ◌∙◌}
+use Rattle.std.proofs.Common.{◌≡◌, ◌^◌, ℕ, ◌&&◌, Bool, true, false, List, ◌∷◌, length, Option, Some, None, option_and_then, refl, sym, ap, ◌∙◌}
 use Rattle.std.specs.Prelude.{nat_le, codes, bytes_eq, Result, Ok, Err, ok_or}
 use Rattle.std.specs.List.{list_all}
 use Rattle.serde_json.specs.Data.{Data, Items, no_items, item}
@@ -13,7 +13,7 @@ use Rattle.calvin_script.specs.Grammar.{Grammar}
 use Rattle.calvin_script.specs.Reading.{and_then, json, script_from}
 use Rattle.calvin_script.specs.Requests.{request}
 use Rattle.calvin_script.specs.Scripts.{Contents, Listed, are_taken, batch_of, batch, batch_names, groups_fit, script, script_of, script_names}
-use Rattle.calvin_script.specs.Spelling.{◌>>=◌, only_if, has_only, between, below, each, list}
+use Rattle.calvin_script.specs.Spelling.{◌>>=◌, only_if, has_only, between, below, each, list, where_given}
 use Rattle.calvin_sim.specs.Simulations.{AllTaken}
 
 module _ {A : Type 0} (f : Data → Option A) (P : A → Bool) (h : (d : Data) (x : A) → f d ≡ Some x → P x ≡ true) where
@@ -71,20 +71,20 @@ module _ {Args : Type 0} where
   pub script_taken : (grammar : Grammar Args) (d : Data) (c : Contents Args) → script grammar d ≡ Some c → AllTaken c
   unfolding script
   script_taken grammar d c e =
-      go (has_only script_names d) (option_and_then (between 1 16) (get (codes "partitions") d)) (option_and_then as_str (get (codes "app") d)) (get (codes "epochs") d) e
+      go (has_only script_names d) (option_and_then (between 1 16) (get (codes "partitions") d)) (option_and_then as_str (get (codes "app") d)) (where_given (below (2 ^ 48)) (get (codes "woven_from") d)) (get (codes "epochs") d) e
     where
       all : List (List (Listed Args)) → Bool
       all epochs = list_all (λ epoch. list_all (λ (b : Listed Args). are_taken b.requests) epoch) epochs
 
-      end : (p : ℕ) (l : List (List (Listed Args))) (named fit : Bool) → list_all (λ epoch. list_all (λ (b : Listed Args). are_taken b.requests) epoch) l ≡ true → only_if named (only_if fit (Some (record { partitions = p; epochs = l }))) ≡ Some c → AllTaken c
-      end p l true true taken e = ap all_in (sym e) ∙ taken
-      end p l true false taken e = absurd (cc)
-      end p l false fit taken e = absurd (cc)
+      end : (p : ℕ) (w : Option ℕ) (l : List (List (Listed Args))) (named fit : Bool) → list_all (λ epoch. list_all (λ (b : Listed Args). are_taken b.requests) epoch) l ≡ true → only_if named (only_if fit (Some (record { partitions = p; woven_from = w; epochs = l }))) ≡ Some c → AllTaken c
+      end p w l true true taken e = ap all_in (sym e) ∙ taken
+      end p w l true false taken e = absurd (cc)
+      end p w l false fit taken e = absurd (cc)
 
-      listed : (p : ℕ) (a : List ℕ) (o : Option (List (List (Listed Args)))) → ((l : List (List (Listed Args))) → o ≡ Some l → list_all (λ epoch. list_all (λ (b : Listed Args). are_taken b.requests) epoch) l ≡ true)
-          → option_and_then (λ l. only_if (bytes_eq a grammar.app_name) (script_of p l)) o ≡ Some c → AllTaken c
-      listed p a None taken e = absurd (cc)
-      listed p a (Some l) taken e = end p l (bytes_eq a grammar.app_name) (list_all (groups_fit p) l) (taken l refl) e
+      listed : (p : ℕ) (a : List ℕ) (w : Option ℕ) (o : Option (List (List (Listed Args)))) → ((l : List (List (Listed Args))) → o ≡ Some l → list_all (λ epoch. list_all (λ (b : Listed Args). are_taken b.requests) epoch) l ≡ true)
+          → option_and_then (λ l. only_if (bytes_eq a grammar.app_name) (script_of p w l)) o ≡ Some c → AllTaken c
+      listed p a w None taken e = absurd (cc)
+      listed p a w (Some l) taken e = end p w l (bytes_eq a grammar.app_name) (list_all (groups_fit p) l) (taken l refl) e
 
       spelled : (o : Option Data) (l : List (List (Listed Args))) → option_and_then (list (list (batch grammar))) o ≡ Some l → list_all (λ epoch. list_all (λ (b : Listed Args). are_taken b.requests) epoch) l ≡ true
       spelled None l e = absurd (cc)
@@ -92,15 +92,17 @@ module _ {Args : Type 0} where
           list_all_of (list (batch grammar)) (λ epoch. list_all (λ (b : Listed Args). are_taken b.requests) epoch)
           (λ y epoch is. list_all_of (batch grammar) (λ (b : Listed Args). are_taken b.requests) (λ z b has. batch_taken grammar z b has) y epoch is) x l e
 
-      go : (test : Bool) (partitions : Option ℕ) (name : Option (List ℕ)) (epochs : Option Data) → only_if test (do
+      go : (test : Bool) (partitions : Option ℕ) (name : Option (List ℕ)) (woven_from : Option (Option ℕ)) (epochs : Option Data) → only_if test (do
         p ← partitions
         a ← name
+        w ← woven_from
         l ← option_and_then (list (list (batch grammar))) epochs
-        only_if (bytes_eq a grammar.app_name) (script_of p l)) ≡ Some c → AllTaken c
-      go false partitions name epochs e = absurd (cc)
-      go true None name epochs e = absurd (cc)
-      go true (Some p) None epochs e = absurd (cc)
-      go true (Some p) (Some a) epochs e = listed p a (option_and_then (list (list (batch grammar))) epochs) (λ l is. spelled epochs l is) e
+        only_if (bytes_eq a grammar.app_name) (script_of p w l)) ≡ Some c → AllTaken c
+      go false partitions name woven_from epochs e = absurd (cc)
+      go true None name woven_from epochs e = absurd (cc)
+      go true (Some p) None woven_from epochs e = absurd (cc)
+      go true (Some p) (Some a) None epochs e = absurd (cc)
+      go true (Some p) (Some a) (Some w) epochs e = listed p a w (option_and_then (list (list (batch grammar))) epochs) (λ l is. spelled epochs l is) e
 
   abbrev pick : Contents Args → Result (Contents Args) Fault → Contents Args
   pick x (Ok y) = y

@@ -13,7 +13,7 @@ use Rattle.calvin_edge.specs.declared.reading.TheConstants.{MOST_BYTES}
 use Rattle.calvin_app.specs.Meaning.{Meaning}
 use Rattle.calvin_app.specs.Kv.{kv}
 use Rattle.calvin_stock.specs.Stock.{stock}
-use Rattle.calvin_acts.specs.Running.{config_of}
+use Rattle.calvin_world.specs.RunningWorlds.{store_config}
 use Rattle.calvin_script.specs.Scripts.{Contents}
 use Rattle.calvin_script.specs.declared.reading.AppName.{AppName}
 use Rattle.calvin_script.specs.declared.reading.AppName.TheVariants as app
@@ -54,7 +54,7 @@ sim_script bytes = if nat_lt MOST_BYTES (length bytes) then Err ScriptTooLong el
 pub record IsRun {Args Row Reply : Type 0} (m : Meaning Args Row Reply) (grammar : Grammar Args) (show : Reply → List ℕ) (replicas : ℕ) (bytes : List ℕ) (w : WorldState Args Row Reply) (text : List ℕ) : Type 0 where
   pub script : Contents Args
   pub read : script_from grammar bytes ≡ Ok script
-  pub simulation : IsSimulation m (config_of script.partitions replicas false false 0) script w
+  pub simulation : IsSimulation m (store_config script.partitions replicas 0 script.woven_from) script w
   pub told : IsTold m show w text
 
 -- by the application of the world

@@ -4,7 +4,7 @@ ghost use Rattle.std.specs.Result.{result_err};
 ghost use Rattle.std.specs.Io.KnownBytes.{Appends};
 ghost use Rattle.calvin_edge.specs.Answering.{Refuses};
 ghost use Rattle.calvin_edge.specs.Devices.{LeavesAsTold};
-ghost use Rattle.calvin_acts.specs.Running.{config_of};
+ghost use Rattle.calvin_world.specs.RunningWorlds.{store_config};
 ghost use Rattle.calvin_script.specs.Documents.{data_of};
 ghost use Rattle.calvin_script.specs.Reading.{and_then, json, script_from, Reads};
 ghost use Rattle.calvin_script.specs.Scripts.{Contents, contents};
@@ -17,22 +17,20 @@ use crate::fitting::{fits, read_is_taken};
 use crate::telling::simulate_and_tell;
 use calvin_app::{App, Kv};
 use calvin_edge::{Sink, Source, read_all, write_all};
-use calvin_lock::QueueLocks;
 use calvin_schedule::Schedule;
 use calvin_script::{AppName, Document, Kept, Operation, Script};
-use calvin_stock::{Stock, StockRow};
-use calvin_store::PlainRows;
+use calvin_stock::Stock;
 use calvin_text::Printed;
 use calvin_tokens::{OperationTokens, Scratch, usual_script};
 use calvin_types::Fault;
-use calvin_world::World;
+use calvin_world::StoreWorld;
 use std::alloc::Global;
 
 /// The world in which a script was run, of the application that the script names.
 #[derive(Drop)]
 pub enum Simulated {
-    Kv(World<Kv, QueueLocks, PlainRows<u64>>),
-    Stock(World<Stock, QueueLocks, PlainRows<StockRow>>),
+    Kv(StoreWorld<Kv>),
+    Stock(StoreWorld<Stock>),
 }
 
 /// What came of a script: its world, and the text of it.
@@ -48,12 +46,12 @@ fn run_script<A: App + Drop>(
     app: A,
     script: &Script<Kept<A::Args>>,
     schedule: &Schedule,
-) -> Result<(World<A, QueueLocks, PlainRows<A::Row>>, Vec<u8>), Fault>
+) -> Result<(StoreWorld<A>, Vec<u8>), Fault>
 where
     A::Args: Operation,
     A::Reply: Printed,
     requires taken { AllTaken (contents script.now) }
-    ensures simulated { IfOk result (λ r. IsSimulation A.meaning (config_of script.now.partitions schedule.now.replicas false false 0) (contents script.now) r.0) }
+    ensures simulated { IfOk result (λ r. IsSimulation A.meaning (store_config script.now.partitions schedule.now.replicas 0 script.now.woven_from) (contents script.now) r.0) }
     ensures told { IfOk result (λ r. IsTold A.meaning A.Reply.printed r.0 r.1.items) }
     ensures fits { Reads (λ r. tt) result (fitting (contents script.now)) }
 {
@@ -71,7 +69,7 @@ fn run_usual<A: App + Drop>(
     bytes: &mut Vec<u8>,
     scratch: &mut Scratch,
     schedule: &Schedule,
-) -> Option<Result<(World<A, QueueLocks, PlainRows<A::Row>>, Vec<u8>), Fault>>
+) -> Option<Result<(StoreWorld<A>, Vec<u8>), Fault>>
 where
     A::Args: OperationTokens,
     A::Reply: Printed,
@@ -93,7 +91,7 @@ fn run_document<A: App + Drop>(
     app: A,
     document: Document,
     schedule: &Schedule,
-) -> Result<(World<A, QueueLocks, PlainRows<A::Row>>, Vec<u8>), Fault>
+) -> Result<(StoreWorld<A>, Vec<u8>), Fault>
 where
     A::Args: Operation,
     A::Reply: Printed,
@@ -130,9 +128,7 @@ fn run_bytes(alloc: Global, mut bytes: Vec<u8>, schedule: &Schedule) -> Result<T
 }
 
 /// What came of a script of `kv`.
-fn told_of_kv(
-    run: Result<(World<Kv, QueueLocks, PlainRows<u64>>, Vec<u8>), Fault>,
-) -> Result<Told, Fault>
+fn told_of_kv(run: Result<(StoreWorld<Kv>, Vec<u8>), Fault>) -> Result<Told, Fault>
     ensures { MatchResult run (λ r. result ≡ Ok (record { world = simulated.Kv r.0; text = r.1 })) (λ fault. result ≡ Err fault) }
 {
     let (world, text) = run?;
@@ -143,9 +139,7 @@ fn told_of_kv(
 }
 
 /// What came of a script of `stock`.
-fn told_of_stock(
-    run: Result<(World<Stock, QueueLocks, PlainRows<StockRow>>, Vec<u8>), Fault>,
-) -> Result<Told, Fault>
+fn told_of_stock(run: Result<(StoreWorld<Stock>, Vec<u8>), Fault>) -> Result<Told, Fault>
     ensures { MatchResult run (λ r. result ≡ Ok (record { world = simulated.Stock r.0; text = r.1 })) (λ fault. result ≡ Err fault) }
 {
     let (world, text) = run?;

@@ -8,13 +8,11 @@ ghost use Rattle.calvin_sim.specs.Sequencers.{IsOpen, AreOpen};
 ghost use Rattle.calvin_world.specs.Worlds.{opening};
 
 use calvin_app::App;
-use calvin_lock::QueueLocks;
 use calvin_node::Act;
 use calvin_script::{Epoch, Kept, Operation, Script};
 use calvin_serial::requests_of;
-use calvin_store::PlainRows;
 use calvin_types::{Fault, NodeId};
-use calvin_world::{Event, World};
+use calvin_world::{Event, StoreWorld};
 
 /// The node at which the requests of a group are submitted: that of replica 0.
 fn sequencer_of(group: u8) -> NodeId
@@ -28,7 +26,7 @@ fn sequencer_of(group: u8) -> NodeId
 
 /// Submits the requests of a batch at the group's node, and closes it there.
 fn submit_batch<A: App + Drop>(
-    world: &mut World<A, QueueLocks, PlainRows<A::Row>>,
+    world: &mut StoreWorld<A>,
     group: u8,
     requests: &[Kept<A::Args>],
 ) -> Result<(), Fault>
@@ -46,7 +44,7 @@ where
 
 /// Submits the batches of an epoch, and closes the epoch for each group.
 fn submit_epoch<A: App + Drop>(
-    world: &mut World<A, QueueLocks, PlainRows<A::Row>>,
+    world: &mut StoreWorld<A>,
     partitions: u8,
     epoch: &Epoch<Kept<A::Args>>,
 ) -> Result<(), Fault>
@@ -64,7 +62,7 @@ where
 
 /// Submits all batches of a script to a new world, epoch by epoch.
 pub(crate) fn submit_all<A: App + Drop>(
-    world: &mut World<A, QueueLocks, PlainRows<A::Row>>,
+    world: &mut StoreWorld<A>,
     script: &Script<Kept<A::Args>>,
 ) -> Result<(), Fault>
 where

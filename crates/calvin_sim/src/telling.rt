@@ -1,7 +1,7 @@
 //! What is told of a simulation.
 ghost use Rattle.std.specs.Prelude.{◌≡◌, ◌++◌, false, true, IfOk, IsOkUnless};
 ghost use Rattle.std.specs.FinMap.{entries};
-ghost use Rattle.calvin_acts.specs.Running.{config_of};
+ghost use Rattle.calvin_world.specs.RunningWorlds.{store_config};
 ghost use Rattle.calvin_script.specs.Scripts.{contents};
 ghost use Rattle.calvin_text.specs.Texts.{finished_at};
 ghost use Rattle.calvin_report.specs.declared.replies.Epochs.TheVariants.{UpTo};
@@ -12,22 +12,17 @@ ghost use Rattle.calvin_sim.specs.Telling.{IsTold};
 
 use crate::simulation::simulate;
 use calvin_app::App;
-use calvin_lock::QueueLocks;
 use calvin_report::{Epochs, finished, push_replies, replies_of, told_is_serial};
 use calvin_schedule::Schedule;
 use calvin_script::{Kept, Operation, Script};
-use calvin_store::PlainRows;
 use calvin_text::{Printed, push_last};
 use calvin_types::Fault;
-use calvin_world::World;
+use calvin_world::StoreWorld;
 use std::alloc::Global;
 
 /// The lines of the replies of the epochs up to the last one at whose end every node stands, and that epoch. Refused with
 /// `OutOfMemory` alone.
-fn text_of<A: App + Drop>(
-    alloc: Global,
-    world: &World<A, QueueLocks, PlainRows<A::Row>>,
-) -> Result<Vec<u8>, Fault>
+fn text_of<A: App + Drop>(alloc: Global, world: &StoreWorld<A>) -> Result<Vec<u8>, Fault>
 where
     A::Reply: Printed,
     ensures text { IfOk result (λ text. text.items ≡ reply_lines A.Reply.printed (of_epochs (UpTo (least_standing world.now)) (entries (replied world.now.packets))) ++ finished_at (least_standing world.now)) }
@@ -48,13 +43,13 @@ pub fn simulate_and_tell<A: App + Drop>(
     app: A,
     script: &Script<Kept<A::Args>>,
     schedule: &Schedule,
-) -> Result<(World<A, QueueLocks, PlainRows<A::Row>>, Vec<u8>), Fault>
+) -> Result<(StoreWorld<A>, Vec<u8>), Fault>
 where
     A::Args: Operation,
     A::Reply: Printed,
     requires taken { AllTaken (contents script.now) }
     requires fits { fits (contents script.now) ≡ true }
-    ensures simulated { IfOk result (λ r. IsSimulation A.meaning (config_of script.now.partitions schedule.now.replicas false false 0) (contents script.now) r.0) }
+    ensures simulated { IfOk result (λ r. IsSimulation A.meaning (store_config script.now.partitions schedule.now.replicas 0 script.now.woven_from) (contents script.now) r.0) }
     ensures told { IfOk result (λ r. IsTold A.meaning A.Reply.printed r.0 r.1.items) }
     ensures only { IsOkUnless result Fault.OutOfMemory }
 {

@@ -5,3 +5,5 @@
 mod checks;
 #[cfg(test)]
 mod single;
+#[cfg(test)]
+mod woven;

@@ -5,5 +5,4 @@ pub mod Flows
 pub mod LineLists
 pub mod Lines
 pub mod Pieces
-pub mod Runs
 pub mod Seen

@@ -6,6 +6,7 @@ mod items;
 mod keys;
 mod limits;
 mod line_list;
+mod once;
 mod order;
 mod placing;
 mod reply;
@@ -17,6 +18,7 @@ mod totals;
 
 pub use limits::{MOST_CENTS, MOST_LINES, MOST_PIECES};
 pub use line_list::LineList;
+pub use once::stock_once;
 pub use order::{Line, Order};
 pub use reply::StockReply;
 pub use request::StockRequest;

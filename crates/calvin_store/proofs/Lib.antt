@@ -1,2 +1,10 @@
+pub mod BeforePairs
+pub mod BeforeVersions
+pub mod ColdKeys
+pub mod Filtering
+pub mod OpenPoints
+pub mod PutsInTurn
+pub mod RowsTaken
 pub mod SortedPairs
 pub mod StillKept
+pub mod TwoTables

@@ -34,7 +34,7 @@ rise a b differ upward = go (key_cmp a b) refl
     go Greater is = absurd (false≢true (sym upward ∙ ap is_lt (key_cmp_total.antisymm b a ∙ ap ordering_reverse is)))
 
 -- a key that none is equal to isn't found
-none_distinct : IsDistinct equal_keys []
+pub none_distinct : IsDistinct equal_keys []
 unfolding IsDistinct
 none_distinct = tt
 
@@ -99,7 +99,7 @@ module _ {Row : Type 0} where
   above x [] h = tt
   above x (e ∷ es) h = (equal_keys_is_same_key x e.0 ∙ ap is_eq (less _ (first _ _ h)), above x es (second _ _ h))
 
-  distinct-rising : (es : List (Key × Row)) → rising es → IsDistinct equal_keys (keys_of es)
+  pub distinct-rising : (es : List (Key × Row)) → rising es → IsDistinct equal_keys (keys_of es)
   distinct-rising [] h = none_distinct
   distinct-rising (e ∷ es) h = IsDistinct-cons equal_keys e.0 (keys_of es) (above e.0 es (first _ _ h)) (distinct-rising es (second _ _ h))
 

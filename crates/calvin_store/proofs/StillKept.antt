@@ -1,7 +1,7 @@
 -- A store with no point and no cold row: what warming and looking for hot rows come to.
 use Rattle.std.proofs.Common.{◌≡◌, ◌&&◌, not, List, Option, is_some, ap, ◌∙◌}
 use Rattle.std.proofs.Math.Bool.{and-true}
-use Rattle.std.specs.FinMap.{empty, get, get-empty}
+use Rattle.std.specs.FinMap.{get, get-empty}
 use Rattle.calvin_types.specs.declared.key.Key.{Key}
 use Rattle.calvin_types.specs.Keys.{key_cmp}
 use Rattle.calvin_app.specs.Rows.{Rows}

@@ -1,2 +1,4 @@
 pub mod Kept
 pub mod Points
+pub mod Tiers
+pub mod Versions

@@ -1,13 +1,10 @@
-//! A keeper with all rows in memory.
-ghost use Rattle.std.specs.Prelude.{◌≡◌, ◌-◌, ◌<◌};
-ghost use Rattle.std.specs.FinMap as map;
-
+//! A keeper with all rows in one table.
 use crate::rows::Rows;
 use crate::snapshot::Snapshot;
+use crate::table::RowTable;
 use calvin_app::Writes;
 use calvin_types::{Fault, Key, Place, Sets};
 use std::alloc::Global;
-use std::collections::HashMap;
 use std::marker::Model;
 
 /// Rows in one hash map: a row is found or written in expected constant time. A snapshot sorts the rows, and one is loaded
@@ -15,35 +12,17 @@ use std::marker::Model;
 #[derive(Drop)]
 pub struct PlainRows<Row> {
     alloc: Global,
-    rows: HashMap<Key, Row>,
-    room: usize,
+    table: RowTable<Row>,
 }
 
 impl<Row> Model for PlainRows<Row> {
-    ghost use Rattle.std.specs.Prelude.{◌≤◌};
-    ghost use Rattle.std.specs.FinMap.{from_entries};
-    ghost use Rattle.std.specs.HashMap.{spare};
     ghost use Rattle.calvin_store.specs.Kept.{Kept, coded_kept};
 
     ghost Value = { Kept Row };
 
     ghost coded = { coded_kept Row.code };
 
-    ghost view = { λ p. record { rows = from_entries p.rows.entries; room = p.room } };
-
-    ghost invariant = { λ p. p.room ≤ spare p.rows };
-}
-
-impl<Row: Copy> PlainRows<Row> {
-    /// Puts a row under a key, and uses up room for one.
-    fn put(&mut self, key: Key, row: Row)
-        requires { 0 < self.old.room }
-        ensures { self.new ≡ record { rows = map.insert self.old.rows key row; room = self.old.room - 1 } }
-    {
-        let put: Result<_, _> = self.rows.insert(key, row);
-        let _before = put.unwrap();
-        self.room -= 1;
-    }
+    ghost view = { λ p. p.table };
 }
 
 impl<Row: Copy> Rows<Row> for PlainRows<Row> {
@@ -61,52 +40,41 @@ impl<Row: Copy> Rows<Row> for PlainRows<Row> {
     fn empty(alloc: Global) -> PlainRows<Row> {
         PlainRows {
             alloc,
-            rows: HashMap::new(alloc),
-            room: 0,
+            table: RowTable::new(alloc),
         }
     }
 
     fn len(&self) -> usize {
-        self.rows.len()
+        self.table.len()
     }
 
     fn get(&self, key: &Key) -> Option<Row> {
-        self.rows.get(key).copied()
+        self.table.get(key)
     }
 
     fn room(&self) -> usize {
-        self.room
+        self.table.room()
     }
 
     fn reserve(&mut self, n: usize) -> Result<(), Fault> {
-        if self.room < n {
-            self.rows.reserve(n)?;
-            self.room = n;
-        }
+        self.table.reserve(n)?;
         Ok(())
     }
 
     fn put_all(&mut self, _place: Place, writes: &Writes<Row>) {
         for i in 0..writes.len() {
             let (key, row) = writes.at(i);
-            self.put(key, row);
+            self.table.put(key, row);
         }
     }
 
     fn snapshot(&self) -> Result<Snapshot<Row>, Fault> {
-        let mut pairs: Vec<(Key, Row)> = self
-            .rows
-            .iter()
-            .map(|(key, row)| (*key, *row))
-            .collect(self.alloc)?;
-        pairs.sort_unstable_by(|a, b| a.0.cmp(&b.0));
-        Snapshot::new(self.alloc, pairs)
+        let pairs = self.table.pairs(self.alloc)?;
+        Snapshot::sorted(self.alloc, pairs)
     }
 
     fn load(&mut self, snapshot: &Snapshot<Row>) -> Result<(), Fault> {
-        let mut rows: HashMap<Key, Row> = snapshot.pairs().iter().copied().collect(self.alloc)?;
-        rows.reserve(self.room)?;
-        self.rows = rows;
+        self.table = RowTable::of(self.alloc, snapshot, self.table.room())?;
         Ok(())
     }
 

@@ -1,7 +1,10 @@
 //! A copy of the rows at one time.
 ghost use Rattle.std.specs.Prelude.{◌≡◌, IfOk, IsOkUnless};
 ghost use Rattle.std.specs.FinMap as map;
+ghost use Rattle.std.specs.List.{IsDistinct};
+ghost use Rattle.calvin_types.specs.SameKeys.{equal_keys};
 ghost use Rattle.calvin_app.specs.Entries.{shown, rising};
+ghost use Rattle.calvin_app.specs.Writing.{keys_of};
 
 use calvin_types::{Fault, Key, Shared};
 use std::alloc::Global;
@@ -44,6 +47,18 @@ impl<Row: Copy> Snapshot<Row> {
     {
         let pairs = Shared::new(alloc, pairs)?;
         Ok(Snapshot { pairs })
+    }
+
+    /// The rows of these pairs, in whatever order they stand, of which no two have one key. Refused with `OutOfMemory`
+    /// where a growth was refused.
+    pub(crate) fn sorted(alloc: Global, pairs: Vec<(Key, Row)>) -> Result<Snapshot<Row>, Fault>
+        requires { IsDistinct equal_keys (keys_of pairs.items) }
+        ensures ok { IfOk result (λ s. s ≡ map.from_entries pairs.items) }
+        ensures only { IsOkUnless result Fault.OutOfMemory }
+    {
+        let mut pairs = pairs;
+        pairs.sort_unstable_by(|a, b| a.0.cmp(&b.0));
+        Snapshot::new(alloc, pairs)
     }
 
     /// How many keys have a row.

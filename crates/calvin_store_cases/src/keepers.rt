@@ -1,11 +1,12 @@
-//! Each call once, at two keepers, through functions that know them as keepers alone.
+//! Each call once, at each keeper, through functions that know them as keepers alone.
 ghost use Rattle.std.specs.Prelude.{◌≡◌, ◌<◌, OnOk, OnErr};
 ghost use Rattle.calvin_app.specs.Stores.{put_at};
 
 use crate::checks::{holds, same};
+use crate::draws::Draws;
 use crate::list_rows::ListRows;
 use calvin_app::Writes;
-use calvin_store::{PlainRows, Rows, Snapshot};
+use calvin_store::{ColdRows, PlainRows, Rows, Snapshot, SplitRows};
 use calvin_types::{Fault, Key, Place};
 use std::alloc::Global;
 use std::process::Abort;
@@ -120,34 +121,28 @@ fn each_call_of_plain_rows(rt: HostRuntime) -> Result<(), Fail> {
 }
 
 #[test]
+fn each_call_of_split_rows(rt: HostRuntime) -> Result<(), Fail> {
+    each_call::<SplitRows<u64>>(&rt, rt.alloc())?;
+    Ok(())
+}
+
+#[test]
+fn each_call_of_cold_rows(rt: HostRuntime) -> Result<(), Fail> {
+    each_call::<ColdRows<u64>>(&rt, rt.alloc())?;
+    Ok(())
+}
+
+#[test]
 fn each_call_of_a_list(rt: HostRuntime) -> Result<(), Fail> {
     each_call::<ListRows<u64>>(&rt, rt.alloc())?;
     Ok(())
 }
 
-/// Numbers that are drawn, always the same ones (Knuth's MMIX generator).
-#[derive(Drop)]
-struct Draws {
-    state: u64,
-}
-
-impl Draws {
-    fn below(&mut self, n: u64) -> u64
-        requires { 0 < n }
-        ensures { result < n }
-    {
-        self.state = self
-            .state
-            .wrapping_mul(6364136223846793005)
-            .wrapping_add(1442695040888963407);
-        (self.state >> 33) % n
-    }
-
-    fn key(&mut self) -> Key {
-        Key {
-            table: self.below(2) as u8,
-            id: self.below(100),
-        }
+/// A key of table 0 or 1.
+fn drawn_key(draws: &mut Draws) -> Key {
+    Key {
+        table: draws.below(2) as u8,
+        id: draws.below(100),
     }
 }
 
@@ -175,20 +170,20 @@ fn play<S: Rows<u64>>(
         _ => {
             let mut writes = Writes::new();
             for _ in 0..draws.below(5) {
-                writes.put(draws.key(), draws.below(1000))?;
+                writes.put(drawn_key(draws), draws.below(1000))?;
             }
             write(rows, &writes)?;
         }
     }
     told.push(rows.len() as u64)?;
-    told.push(rows.get(&draws.key()).unwrap_or(1000))?;
+    told.push(rows.get(&drawn_key(draws)).unwrap_or(1000))?;
     Ok(())
 }
 
 /// So many drawn calls, and what both snapshots hold after them.
 fn play_all<S: Rows<u64>>(rows: &mut S, calls: u32, told: &mut Vec<u64>) -> Result<(), Fault> {
     let mut kept = rows.snapshot()?;
-    let mut draws = Draws { state: 12 };
+    let mut draws = Draws::new(12);
     for _ in 0..calls {
         play(rows, &mut kept, &mut draws, told)?;
     }
@@ -233,6 +228,8 @@ fn leaves_all<S: Rows<u64> + Drop>(rt: &impl Abort, alloc: Global) -> Result<(),
 #[test]
 fn refusals_leave_everything(rt: HostRuntime) -> Result<(), Fail> {
     leaves_all::<PlainRows<u64>>(&rt, rt.alloc())?;
+    leaves_all::<SplitRows<u64>>(&rt, rt.alloc())?;
+    leaves_all::<ColdRows<u64>>(&rt, rt.alloc())?;
     leaves_all::<ListRows<u64>>(&rt, rt.alloc())?;
     Ok(())
 }

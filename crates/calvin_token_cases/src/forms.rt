@@ -34,7 +34,7 @@ pub fn with_request(alloc: Global, request: &str) -> Result<String, AllocError> 
 }
 
 /// Scripts with their members in any order.
-const ANY_SCRIPTS: [&str; 8] = [
+const ANY_SCRIPTS: [&str; 13] = [
     r#"{"partitions":1,"app":"kv","epochs":[]}"#,
     r#"{"app":"kv","epochs":[],"partitions":1}"#,
     r#"{"epochs":[],"partitions":16,"app":"kv"}"#,
@@ -43,6 +43,11 @@ const ANY_SCRIPTS: [&str; 8] = [
     r#"{"partitions":2,"app":"k\u0076","epochs":[[{"group":0,"txns":[]}]]}"#,
     r#"{"partitions":2,"app":"kv","epochs":[[{"txns":[],"group":0},{"group":1,"txns":[]}],[]]}"#,
     r#"{"partitions":2,"app":"kv","epochs":[[{"group":1,"txns":[],"group":0}]]}"#,
+    r#"{"partitions":1,"app":"kv","woven_from":0,"epochs":[]}"#,
+    r#"{"partitions":1,"app":"kv","epochs":[],"woven_from":281474976710655}"#,
+    r#"{"woven_from":1,"epochs":[],"partitions":16,"app":"kv"}"#,
+    r#"{"woven_from":9,"partitions":1,"app":"kv","woven_from":2,"epochs":[]}"#,
+    r#"{"partitions":2,"app":"kv","woven_from":1,"epochs":[[],[]]}"#,
 ];
 
 #[test]
@@ -107,6 +112,67 @@ fn unusual_requests(rt: HostRuntime) -> Result<(), Fail> {
     Ok(())
 }
 
+/// The first woven epoch of a script.
+fn first_woven(alloc: Global, text: &str) -> Result<Option<u64>, Fault> {
+    let script = script_from::<KvRequest>(alloc, text.as_bytes())?;
+    let first = script.woven_from;
+    drop(script);
+    Ok(first)
+}
+
+/// Scripts, the first woven epoch of each, and whether they are read in the usual way: not where a member of a wrong form is
+/// replaced by a later one of its name.
+const FIRST_WOVEN: [(&str, Option<u64>, bool); 8] = [
+    (r#"{"partitions":1,"app":"kv","epochs":[]}"#, None, true),
+    (
+        r#"{"partitions":1,"app":"kv","woven_from":0,"epochs":[]}"#,
+        Some(0),
+        true,
+    ),
+    (
+        r#"{"partitions":1,"app":"kv","epochs":[],"woven_from":3}"#,
+        Some(3),
+        true,
+    ),
+    (
+        r#"{"partitions":1,"woven_from":281474976710655,"app":"kv","epochs":[]}"#,
+        Some(281474976710655),
+        true,
+    ),
+    (
+        r#"{"woven_from":9,"partitions":1,"app":"kv","woven_from":2,"epochs":[]}"#,
+        Some(2),
+        true,
+    ),
+    (
+        r#"{"woven_from":null,"partitions":1,"app":"kv","woven_from":2,"epochs":[]}"#,
+        Some(2),
+        false,
+    ),
+    (
+        r#"{"woven_from":281474976710656,"partitions":1,"app":"kv","woven_from":2,"epochs":[]}"#,
+        Some(2),
+        false,
+    ),
+    (
+        r#"{"woven_from":1.0,"partitions":1,"app":"kv","epochs":[],"woven_from":2}"#,
+        Some(2),
+        false,
+    ),
+];
+
+#[test]
+fn first_woven_epochs(rt: HostRuntime) {
+    for &(text, first, in_usual_way) in &FIRST_WOVEN {
+        let found = first_woven(rt.alloc(), text);
+        same(
+            &rt,
+            (text, is_usual(rt.alloc(), text), found),
+            (text, in_usual_way, Ok(first)),
+        );
+    }
+}
+
 /// A text is refused in both ways, and with what.
 fn check_refused(rt: &impl Abort, alloc: Global, text: &str, want: Fault) {
     same(rt, (text, is_usual(alloc, text)), (text, false));
@@ -115,7 +181,7 @@ fn check_refused(rt: &impl Abort, alloc: Global, text: &str, want: Fault) {
 }
 
 /// What is refused, and with what.
-const REFUSED: [(&str, Fault); 10] = [
+const REFUSED: [(&str, Fault); 15] = [
     ("", Fault::BadJson),
     ("[", Fault::BadJson),
     (
@@ -145,6 +211,26 @@ const REFUSED: [(&str, Fault); 10] = [
     ),
     (
         r#"{"partitions":1,"app":"kv","epochs":[[{"group":1,"txns":[]}]]}"#,
+        Fault::BadScript,
+    ),
+    (
+        r#"{"partitions":1,"app":"kv","woven_from":281474976710656,"epochs":[]}"#,
+        Fault::BadScript,
+    ),
+    (
+        r#"{"partitions":1,"app":"kv","woven_from":-1,"epochs":[]}"#,
+        Fault::BadScript,
+    ),
+    (
+        r#"{"partitions":1,"app":"kv","woven_from":"a","epochs":[]}"#,
+        Fault::BadScript,
+    ),
+    (
+        r#"{"partitions":1,"app":"kv","woven_from":1,"woven_from":null,"epochs":[]}"#,
+        Fault::BadScript,
+    ),
+    (
+        r#"{"partitions":1,"app":"kv","woven_from":1.0,"epochs":[]}"#,
         Fault::BadScript,
     ),
 ];

@@ -50,7 +50,8 @@ fn is_same_epoch<Op: OperationTokens + Eq>(one: &Epoch<Kept<Op>>, other: &Epoch<
 
 /// Whether two scripts are the same.
 fn is_same<Op: OperationTokens + Eq>(one: &Script<Kept<Op>>, other: &Script<Kept<Op>>) -> bool {
-    if one.partitions != other.partitions || one.epochs.len() != other.epochs.len() {
+    let is_alike = one.partitions == other.partitions && one.woven_from == other.woven_from;
+    if !is_alike || one.epochs.len() != other.epochs.len() {
         return false;
     }
     for i in 0..one.epochs.len() {

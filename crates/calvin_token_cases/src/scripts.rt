@@ -296,9 +296,19 @@ fn epochs(generator: &mut Pcg32, alloc: Global, app: AppName) -> Result<String, 
     joined(generator, alloc, epochs, added)
 }
 
-/// Adds the members of a script of these epochs.
+/// A number of an epoch.
+fn epoch_number(generator: &mut Pcg32) -> u64 {
+    let edges = [0, 1, 4294967296, 281474976710655];
+    match edges.get(draw(generator, 8) as usize) {
+        Some(&edge) => edge,
+        None => draw(generator, 1000) as u64,
+    }
+}
+
+/// Adds the members of a script of these epochs, at times the first woven epoch.
 fn add_script_members(
     members: &mut Vec<String>,
+    generator: &mut Pcg32,
     alloc: Global,
     app: AppName,
     epochs: &str,
@@ -309,6 +319,10 @@ fn add_script_members(
         AppName::Stock => "stock",
     };
     add(members, format!(in alloc; r#""app":"{name}""#))?;
+    if draw(generator, 2) == 0 {
+        let first = epoch_number(generator);
+        add(members, format!(in alloc; r#""woven_from":{first}"#))?;
+    }
     add(members, format!(in alloc; r#""epochs":[{epochs}]"#))
 }
 
@@ -316,7 +330,7 @@ fn add_script_members(
 pub fn script(generator: &mut Pcg32, alloc: Global, app: AppName) -> Result<String, AllocError> {
     let epochs = epochs(generator, alloc, app)?;
     let mut members = Vec::new(alloc);
-    let added = add_script_members(&mut members, alloc, app, epochs.as_str());
+    let added = add_script_members(&mut members, generator, alloc, app, epochs.as_str());
     drop(epochs);
     object(alloc, joined(generator, alloc, members, added)?)
 }

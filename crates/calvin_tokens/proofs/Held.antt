@@ -1,11 +1,11 @@
 -- One member more of a request, of a batch or of a script.
-use Rattle.std.proofs.Common.{◌≡◌, ◌≤◌, ◌^◌, ℕ, List, Vec, Global, true, Option, Some, map, codes, refl, ap, ◌∙◌}
+use Rattle.std.proofs.Common.{◌≡◌, ◌≤◌, ◌^◌, ℕ, List, Vec, Global, true, Option, Some, option_map, map, codes, refl, ap, ◌∙◌}
 use Rattle.json.specs.Token.{Token}
 use Rattle.serde_json.specs.Data.{Data, Members, put}
 use Rattle.serde_json.specs.Find.{as_str}
 use Rattle.serde_json.proofs.Views.{get_member-put}
 use Rattle.calvin_types.specs.declared.key.Key.{Key}
-use Rattle.calvin_script.specs.Spelling.{below, between, list, optional}
+use Rattle.calvin_script.specs.Spelling.{below, between, list, optional, where_given}
 use Rattle.calvin_script.specs.KeyLists.{key, key_set}
 use Rattle.calvin_script.specs.Grammar.{Grammar}
 use Rattle.calvin_script.specs.declared.contents.Request.{Request}
@@ -114,6 +114,7 @@ module _ {Args : Type 0} (grammar : Grammar Args) (found : Members) (d : Data) w
     partitions_held x means = record {
       partitions = spelled_same (codes "partitions") d found (between 1 16) x means;
       app = spelled_other (codes "partitions") d found as_str (codes "app") _ refl h.app;
+      woven_from = ap (where_given (below (2 ^ 48))) (found_other (codes "partitions") d found (codes "woven_from") refl) ∙ h.woven_from;
       epochs = spelled_other (codes "partitions") d found (list (list (batch grammar))) (codes "epochs") _ refl h.epochs;
       named = named_put script_names (codes "partitions") d found refl h.named;
     }
@@ -122,6 +123,7 @@ module _ {Args : Type 0} (grammar : Grammar Args) (found : Members) (d : Data) w
     app_held means = record {
       partitions = spelled_other (codes "app") d found (between 1 16) (codes "partitions") _ refl h.partitions;
       app = spelled_same (codes "app") d found as_str grammar.app_name means;
+      woven_from = ap (where_given (below (2 ^ 48))) (found_other (codes "app") d found (codes "woven_from") refl) ∙ h.woven_from;
       epochs = spelled_other (codes "app") d found (list (list (batch grammar))) (codes "epochs") _ refl h.epochs;
       named = named_put script_names (codes "app") d found refl h.named;
     }
@@ -130,6 +132,16 @@ module _ {Args : Type 0} (grammar : Grammar Args) (found : Members) (d : Data) w
     epochs_held x means = record {
       partitions = spelled_other (codes "epochs") d found (between 1 16) (codes "partitions") _ refl h.partitions;
       app = spelled_other (codes "epochs") d found as_str (codes "app") _ refl h.app;
+      woven_from = ap (where_given (below (2 ^ 48))) (found_other (codes "epochs") d found (codes "woven_from") refl) ∙ h.woven_from;
       epochs = spelled_same (codes "epochs") d found (list (list (batch grammar))) (map all_listed x.items) means;
       named = named_put script_names (codes "epochs") d found refl h.named;
+    }
+
+    pub woven_held : (x : ℕ) → below (2 ^ 48) d ≡ Some x → HoldsScript grammar (put (codes "woven_from") d found) (record s { woven_from = Some x })
+    woven_held x means = record {
+      partitions = spelled_other (codes "woven_from") d found (between 1 16) (codes "partitions") _ refl h.partitions;
+      app = spelled_other (codes "woven_from") d found as_str (codes "app") _ refl h.app;
+      woven_from = ap (where_given (below (2 ^ 48))) (get_member-put (codes "woven_from") d found) ∙ ap (option_map Some) means;
+      epochs = spelled_other (codes "woven_from") d found (list (list (batch grammar))) (codes "epochs") _ refl h.epochs;
+      named = named_put script_names (codes "woven_from") d found refl h.named;
     }

@@ -69,14 +69,14 @@ module _ {Args : Type 0} (grammar : Grammar Args) where
 
   pub script_spelled : (found : Members) (m : ScriptMembers (Request Args)) (partitions : ℕ) (epochs : List (List (Listed Args))) (s : Contents Args) → HoldsScript grammar found m → m.has_app ≡ true
       → option_map Some m.partitions ≡ Some (Some partitions) → option_map (λ v. Some (map all_listed v.items)) m.epochs ≡ Some (Some epochs)
-      → script_of partitions epochs ≡ Some s → script grammar (object found) ≡ Some s
+      → script_of partitions m.woven_from epochs ≡ Some s → script grammar (object found) ≡ Some s
   unfolding script
   script_spelled found m partitions epochs s h app p e whole =
       let a = there as_str (get_member (codes "app") found) grammar.app_name (rw app at h.app) in
       let n = there (between 1 16) (get_member (codes "partitions") found) partitions (h.partitions ∙ p) in
       let l = there (list (list (batch grammar))) (get_member (codes "epochs") found) epochs (h.epochs ∙ e) in
       let same : bytes_eq grammar.app_name grammar.app_name ≡ true = (bytes_eq-Decides grammar.app_name grammar.app_name).1 refl in
-      rw (h.named, n.1, a.1, l.1, n.2, a.2, l.2, same) whole
+      rw (h.named, n.1, a.1, l.1, n.2, a.2, h.woven_from, l.2, same) whole
 
   pub script_read : (bytes : List ℕ) (x : Contents Args) (rest : List Token) → IsUtf8 bytes → Spells (script grammar) 127 (tokens bytes) x rest → rest ≡ [] → script_from grammar bytes ≡ Ok x
   unfolding script_from json

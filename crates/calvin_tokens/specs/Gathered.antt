@@ -5,8 +5,8 @@
 use Rattle.std.specs.Prelude.{◌≡◌, ◌^◌, ℕ, Bool, true, false, List, map, Option, Some, None, option_map, codes}
 use Rattle.serde_json.specs.Data.{Data, Members}
 use Rattle.serde_json.specs.Find.{get_member, as_str}
-use Rattle.calvin_types.specs.declared.limits.TheConstants.{MOST_PARTITIONS}
-use Rattle.calvin_script.specs.Spelling.{below, between, list, are_named, optional}
+use Rattle.calvin_types.specs.declared.limits.TheConstants.{MOST_EPOCHS, MOST_PARTITIONS}
+use Rattle.calvin_script.specs.Spelling.{below, between, list, are_named, optional, where_given}
 use Rattle.calvin_script.specs.KeyLists.{key, key_set}
 use Rattle.calvin_script.specs.Grammar.{Grammar}
 use Rattle.calvin_script.specs.declared.contents.Request.{Request}
@@ -41,5 +41,6 @@ pub record HoldsBatch {Args : Type 0} (grammar : Grammar Args) (found : Members)
 pub record HoldsScript {Args : Type 0} (grammar : Grammar Args) (found : Members) (s : ScriptMembers (Request Args)) : Type 0 where
   pub partitions : spelled_by (between 1 MOST_PARTITIONS) (codes "partitions") found ≡ option_map Some s.partitions
   pub app : spelled_by as_str (codes "app") found ≡ given s.has_app grammar.app_name
+  pub woven_from : where_given (below MOST_EPOCHS) (get_member (codes "woven_from") found) ≡ Some s.woven_from
   pub epochs : spelled_by (list (list (batch grammar))) (codes "epochs") found ≡ option_map (λ v. Some (map all_listed v.items)) s.epochs
   pub named : are_named script_names found ≡ true

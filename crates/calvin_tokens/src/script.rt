@@ -7,7 +7,7 @@ ghost use Rattle.calvin_tokens.specs.Spelled.{Spells};
 use crate::list::list_of;
 use crate::object::{Object, read_object};
 use crate::operation::OperationTokens;
-use crate::tokens::{between, is_same, string_at};
+use crate::tokens::{between, epoch_value, is_same, string_at};
 use calvin_script::{Epoch, Kept, Script};
 use calvin_types::{Fault, MOST_PARTITIONS};
 use json::{Reader, Scratch};
@@ -19,6 +19,8 @@ pub(crate) struct ScriptMembers<R> {
     partitions: Option<u8>,
     /// Its application was read, and is the wanted one.
     has_app: bool,
+    /// Where it wasn't read, no batch is woven.
+    woven_from: Option<u64>,
     epochs: Option<Vec<Epoch<R>>>,
 }
 
@@ -45,6 +47,10 @@ impl<Op: OperationTokens> Object for ScriptMembers<Kept<Op>> {
             self.epochs = Some(list_of(alloc, reader)?);
             return Some(());
         }
+        if is_same(name, "woven_from") {
+            self.woven_from = Some(epoch_value(reader)?);
+            return Some(());
+        }
         None
     }
 }
@@ -59,6 +65,7 @@ fn read_script<Op: OperationTokens>(
     let mut members = ScriptMembers {
         partitions: None,
         has_app: false,
+        woven_from: None,
         epochs: None,
     };
     read_object(alloc, reader, &mut members)?;
@@ -67,7 +74,7 @@ fn read_script<Op: OperationTokens>(
     }
     let partitions = members.partitions?;
     let epochs = members.epochs?;
-    Script::new(partitions, epochs)
+    Script::new(partitions, members.woven_from, epochs)
 }
 
 /// The script that a text is, for an application, where it is written as usual: then it is read without a value of the

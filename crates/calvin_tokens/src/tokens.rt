@@ -5,9 +5,11 @@ ghost use Rattle.std.specs.Str.Parse.{AllDigits, digits_value};
 ghost use Rattle.json.specs.Token as token;
 ghost use Rattle.serde_json.specs.Data.{unsigned, number};
 ghost use Rattle.serde_json.specs.Read.{number_of};
+ghost use Rattle.calvin_types.specs.declared.limits.TheConstants.{MOST_EPOCHS};
 ghost use Rattle.calvin_script.specs.Spelling.{below, between};
 ghost use Rattle.calvin_tokens.specs.Spelled.{Reads, Spells, key_or_end};
 
+use calvin_types::MOST_EPOCHS;
 use fast_float::Numeral;
 use json::{Reader, Token};
 
@@ -147,6 +149,19 @@ pub(crate) fn u8_value(reader: &mut Reader<'_>) -> Option<u8>
 {
     let value = number_value(reader)?;
     u8::try_from(value).ok()
+}
+
+/// The number of an epoch, which is below 2^48, for the value of a member.
+#[tactic(auto, using(crate::proofs::Steps::below_spelled))]
+pub(crate) fn epoch_value(reader: &mut Reader<'_>) -> Option<u64>
+    ensures { IfSome result (λ n. Spells (below MOST_EPOCHS) 0 reader.old n reader.new) }
+{
+    let epoch = number_value(reader)?;
+    if epoch < MOST_EPOCHS {
+        Some(epoch)
+    } else {
+        None
+    }
 }
 
 /// A whole number from the least to the most.

@@ -1,31 +1,38 @@
-//! How many partitions and replicas a store has, and for how long requests for cold rows are held back.
-ghost use Rattle.std.specs.Prelude.{◌≡◌, ◌<◌, ◌≤◌, ◌↔◌, IfOk, IsOk, IsOkUnless};
+//! How many partitions and replicas a store has, for how long requests for cold rows are held back, and from when on batches
+//! are woven.
+ghost use Rattle.std.specs.Prelude.{◌≡◌, ◌<◌, ◌≤◌, ◌↔◌, Some, None, IfOk, IsOk, IsOkUnless};
+ghost use Rattle.std.specs.Option.{ForSome};
 ghost use Rattle.calvin_types.specs.Keys.{partition_of};
 ghost use Rattle.calvin_types.specs.Limits.{IsInRange};
-ghost use Rattle.calvin_types.specs.declared.limits.TheConstants.{MOST_DELAY};
+ghost use Rattle.calvin_types.specs.declared.limits.TheConstants.{MOST_DELAY, MOST_EPOCHS};
 
 use crate::fault::Fault;
 use crate::key::Key;
-use crate::limits::{MOST_DELAY, MOST_PARTITIONS, MOST_REPLICAS};
+use crate::limits::{MOST_DELAY, MOST_EPOCHS, MOST_PARTITIONS, MOST_REPLICAS};
 
 /// The numbers of partitions (1 to 16) and of replicas (1 to 7), and the delay: for how many closings (0 to 16) a request that
 /// may touch cold rows is held back. Each replica holds every partition, each on a node of its own (Thomson et al. 2012,
-/// section 3; section 4: requests for rows on disk are delayed).
+/// section 3; section 4: requests for rows on disk are delayed). Then the first epoch (0 to 2^48 - 1) whose batches are woven,
+/// if there is one: from it on the first requests of all groups come first, then the second ones, and so on.
 #[derive(Clone, Copy, Debug, PartialEq, Eq)]
 pub struct Config {
     pub partitions: u8,
     pub replicas: u8,
     pub delay: u8,
+    pub woven_from: Option<u64>,
     ghost in_range: { IsInRange partitions replicas },
     ghost delay_in_range: { delay ≤ MOST_DELAY },
+    ghost woven_in_range: { ForSome woven_from (λ epoch. epoch < MOST_EPOCHS) },
 }
 
 impl Config {
-    /// The configuration with these numbers, and without delay. Refused with `BadConfig` where either is outside its range.
+    /// The configuration with these numbers, without delay, in which no batch is woven. Refused with `BadConfig` where either
+    /// is outside its range.
     pub fn new(partitions: u8, replicas: u8) -> Result<Config, Fault>
         ensures partitions { IfOk result (λ c. c.partitions ≡ partitions) }
         ensures replicas { IfOk result (λ c. c.replicas ≡ replicas) }
         ensures delay { IfOk result (λ c. c.delay ≡ 0) }
+        ensures woven_from { IfOk result (λ c. c.woven_from ≡ None) }
         ensures ok { IsOk result ↔ IsInRange partitions replicas }
         ensures only { IsOkUnless result Fault.BadConfig }
     {
@@ -40,6 +47,7 @@ impl Config {
             partitions,
             replicas,
             delay: 0,
+            woven_from: None,
         })
     }
 
@@ -48,6 +56,7 @@ impl Config {
         ensures partitions { IfOk result (λ c. c.partitions ≡ self.partitions) }
         ensures replicas { IfOk result (λ c. c.replicas ≡ self.replicas) }
         ensures delay { IfOk result (λ c. c.delay ≡ delay) }
+        ensures woven_from { IfOk result (λ c. c.woven_from ≡ self.woven_from) }
         ensures ok { IsOk result ↔ (delay ≤ MOST_DELAY) }
         ensures only { IsOkUnless result Fault.BadConfig }
     {
@@ -58,6 +67,28 @@ impl Config {
             partitions: self.partitions,
             replicas: self.replicas,
             delay,
+            woven_from: self.woven_from,
+        })
+    }
+
+    /// The same configuration, in which batches are woven from this epoch on. Refused with `BadConfig` where it is above
+    /// 2^48 - 1, the last epoch.
+    pub fn with_woven(self, epoch: u64) -> Result<Config, Fault>
+        ensures partitions { IfOk result (λ c. c.partitions ≡ self.partitions) }
+        ensures replicas { IfOk result (λ c. c.replicas ≡ self.replicas) }
+        ensures delay { IfOk result (λ c. c.delay ≡ self.delay) }
+        ensures woven_from { IfOk result (λ c. c.woven_from ≡ Some epoch) }
+        ensures ok { IsOk result ↔ (epoch < MOST_EPOCHS) }
+        ensures only { IsOkUnless result Fault.BadConfig }
+    {
+        if epoch >= MOST_EPOCHS {
+            return Err(Fault::BadConfig);
+        }
+        Ok(Config {
+            partitions: self.partitions,
+            replicas: self.replicas,
+            delay: self.delay,
+            woven_from: Some(epoch),
         })
     }
 

@@ -28,4 +28,4 @@ pub use worked::{
     refused_events, refused_over_a_point, refused_without_tables, reply_not_deliverable,
     restart_between_phases, snapshot_by_a_point, snapshot_then_restart, snapshot_without_mark,
 };
-pub use world::{World, outcome_of};
+pub use world::{StoreWorld, World, outcome_of};

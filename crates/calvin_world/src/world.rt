@@ -1,6 +1,7 @@
 //! The world in code.
 ghost use Rattle.std.specs.Prelude.{◌≡◌, ℕ, ◌<◌, ◌*◌, ◌/◌, ◌%◌, length, map, IfOk, OnErr, IsOkUnless, MatchOption, None, Some, slice_get};
-ghost use Rattle.calvin_acts.specs.Running.{Running, config_of};
+ghost use Rattle.calvin_order.specs.Configs.{config_of};
+ghost use Rattle.calvin_acts.specs.Running.{Running};
 ghost use Rattle.calvin_world.specs.declared.event.Event.TheVariants.{At, Deliver};
 ghost use Rattle.calvin_world.specs.Histories.{LeadsOn, StaysChosen, EverStays, WasSubmitted, SubmittedBefore, StandsInTime, StandsLater};
 ghost use Rattle.calvin_world.specs.Promises.{Agrees, IsSerial, PointsAreSerial, StandAlike};
@@ -10,10 +11,10 @@ ghost use Rattle.calvin_world.specs.Worlds.{WorldState, index_of, node_at, peek,
 
 use crate::event::{Event, Outcome};
 use calvin_app::App;
-use calvin_lock::Locks;
+use calvin_lock::{Locks, QueueLocks};
 use calvin_node::{Act, Node};
 use calvin_packets::{Address, Outbox, Packet};
-use calvin_store::Rows;
+use calvin_store::{ColdRows, Rows};
 use calvin_types::{Config, Fault, Key, NodeId};
 use std::alloc::Global;
 use std::marker::Model;
@@ -30,10 +31,14 @@ pub struct World<A: App + Drop, L: Locks + Drop, S: Rows<A::Row> + Drop> {
     packets: Outbox<A>,
 }
 
+/// A world as the commands run it: with a queue of locks for each key, and rows that have points of consistency and a cold
+/// table.
+pub type StoreWorld<A> = World<A, QueueLocks, ColdRows<<A as App>::Row>>;
+
 impl<A: App + Drop, L: Locks + Drop, S: Rows<A::Row> + Drop> Model for World<A, L, S> {
     ghost use Rattle.std.specs.Coded.{codes};
     ghost use Rattle.std.specs.FinMap.{code};
-    ghost use Rattle.calvin_acts.specs.Running.{config_of};
+    ghost use Rattle.calvin_order.specs.Configs.{config_of};
     ghost use Rattle.calvin_world.specs.Worlds.{WorldState};
     ghost use Rattle.calvin_world.specs.RunningWorlds.{world_of, IsOpened, IsReached};
 
@@ -41,16 +46,16 @@ impl<A: App + Drop, L: Locks + Drop, S: Rows<A::Row> + Drop> Model for World<A, 
 
     ghost coded = { Prim.hlevel (codes, code) };
 
-    ghost view = { λ w. world_of (config_of w.config.partitions w.config.replicas S.points S.cold w.config.delay) w.nodes.items w.packets.packets };
+    ghost view = { λ w. world_of (config_of w.config S.points S.cold) w.nodes.items w.packets.packets };
 
-    ghost invariant = { λ w. IsOpened (config_of w.config.partitions w.config.replicas S.points S.cold w.config.delay) w.nodes.items
-        × IsReached A.meaning (world_of (config_of w.config.partitions w.config.replicas S.points S.cold w.config.delay) w.nodes.items w.packets.packets) };
+    ghost invariant = { λ w. IsOpened (config_of w.config S.points S.cold) w.nodes.items
+        × IsReached A.meaning (world_of (config_of w.config S.points S.cold) w.nodes.items w.packets.packets) };
 }
 
 impl<A: App + Drop, L: Locks + Drop, S: Rows<A::Row> + Drop> World<A, L, S> {
     /// A store of new nodes, which have sent nothing. Refused with `OutOfMemory` where there was no room for the nodes.
     pub fn new(alloc: Global, config: &Config, app: A) -> Result<World<A, L, S>, Fault>
-        ensures ok { IfOk result (λ w. w ≡ opening (config_of config.now.partitions config.now.replicas S.points S.cold config.now.delay)) }
+        ensures ok { IfOk result (λ w. w ≡ opening (config_of config.now S.points S.cold)) }
         ensures only { IsOkUnless result Fault.OutOfMemory }
     {
         let mut nodes = Vec::new(alloc);

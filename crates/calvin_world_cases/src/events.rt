@@ -4,7 +4,7 @@ use calvin_app::KvRequest;
 use calvin_events::{EventScript, ListedEvent, event_script_of};
 use calvin_node::Act;
 use calvin_script::{Document, Kept};
-use calvin_types::{Fault, NodeId, Place, Slot};
+use calvin_types::{Fault, Key, NodeId, Place, Slot};
 use calvin_world::Event;
 use std::alloc::Global;
 use std::mem::size_of;
@@ -52,13 +52,26 @@ fn each_event(rt: HostRuntime) -> Result<(), Fail> {
         replica: 253,
         partition: 252,
     };
-    let table: [(&str, Event<KvRequest>); 11] = [
+    let key = Key {
+        table: 255,
+        id: u64::MAX,
+    };
+    let table: [(&str, Event<KvRequest>); 14] = [
         (r#"["close",1,0]"#, Event::At(NODE, Act::Close)),
         (r#"["merge",1,0]"#, Event::At(NODE, Act::Merge)),
         (r#"["lock",1,0]"#, Event::At(NODE, Act::Lock)),
         (r#"["restart",1,0]"#, Event::At(NODE, Act::Restart)),
         (r#"["propose",1,0,3]"#, Event::At(NODE, Act::Propose(3))),
         (r#"["snapshot",1,0,4]"#, Event::At(NODE, Act::Snapshot(4))),
+        (r#"["mark",1,0,5]"#, Event::At(NODE, Act::Mark(5))),
+        (
+            r#"["mark",1,0,281474976710655]"#,
+            Event::At(NODE, Act::Mark(281474976710655)),
+        ),
+        (
+            r#"["cool",1,0,[255,18446744073709551615]]"#,
+            Event::At(NODE, Act::Cool(key)),
+        ),
         (
             r#"["begin",1,0,281474976710655,4294967295]"#,
             Event::At(NODE, Act::Begin(PLACE)),
@@ -104,6 +117,65 @@ fn a_submission(rt: HostRuntime) -> Result<(), Fail> {
 }
 
 #[test]
+fn a_cold_submission(rt: HostRuntime) -> Result<(), Fail> {
+    let event = event_of(
+        rt.alloc(),
+        r#"["submitcold",255,254,{"client":7,"number":1,"op":["put",1,5],"attempt":9}]"#,
+    )?;
+    let Event::At(id, Act::SubmitCold(txn)) = event else {
+        return Err(Fault::BadScript.into());
+    };
+    same(&rt, (id.replica, id.partition), (255, 254));
+    same(&rt, (txn.id.client, txn.id.number, txn.attempt), (7, 1, 9));
+    holds(&rt, txn.args == KvRequest::Put(1, 5));
+    same(&rt, (txn.sets.reads.len(), txn.sets.writes.len()), (0, 1));
+    Ok(())
+}
+
+/// Members, and the delay and the first woven epoch of the script.
+const CONFIGURED: [(&str, u8, Option<u64>); 6] = [
+    (r#""partitions":1,"replicas":1,"events":[]"#, 0, None),
+    (
+        r#""partitions":1,"replicas":1,"events":[],"delay":0,"woven_from":0"#,
+        0,
+        Some(0),
+    ),
+    (
+        r#""partitions":1,"replicas":1,"delay":16,"events":[]"#,
+        16,
+        None,
+    ),
+    (
+        r#""woven_from":281474976710655,"partitions":1,"replicas":1,"delay":1,"events":[]"#,
+        1,
+        Some(281474976710655),
+    ),
+    (
+        r#""partitions":1,"replicas":1,"events":[],"delay":17,"delay":3"#,
+        3,
+        None,
+    ),
+    (
+        r#""partitions":1,"replicas":1,"events":[],"woven_from":null,"woven_from":4"#,
+        0,
+        Some(4),
+    ),
+];
+
+#[test]
+fn delays_and_first_woven_epochs(rt: HostRuntime) -> Result<(), Fail> {
+    for &(members, delay, woven_from) in &CONFIGURED {
+        let script = with_members(rt.alloc(), members)??;
+        same(
+            &rt,
+            (members, script.delay, script.woven_from),
+            (members, delay, woven_from),
+        );
+    }
+    Ok(())
+}
+
+#[test]
 fn the_other_members(rt: HostRuntime) -> Result<(), Fail> {
     let alloc = rt.alloc();
     let members = r#""partitions":16,"replicas":7,"expect":["0.0 7:1 done",""],"events":[
@@ -126,7 +198,7 @@ fn the_other_members(rt: HostRuntime) -> Result<(), Fail> {
 }
 
 /// Events of wrong names, items and numbers.
-const NO_EVENTS: [&str; 35] = [
+const NO_EVENTS: [&str; 52] = [
     "[]",
     "1",
     "null",
@@ -154,9 +226,26 @@ const NO_EVENTS: [&str; 35] = [
     r#"["askbatch",0,0,0,256,0,0]"#,
     r#"["askbatch",0,0,0,0,0,0,0]"#,
     r#"["askbatch",0,0,0,0,256,0]"#,
-    r#"["mark",0,0,0]"#,
-    r#"["cool",0,0,[0,1]]"#,
-    r#"["submitcold",0,0,{"client":7,"number":1,"op":["put",1,5]}]"#,
+    r#"["mark",0,0]"#,
+    r#"["mark",0,0,281474976710656]"#,
+    r#"["mark",0,0,-1]"#,
+    r#"["mark",0,0,null]"#,
+    r#"["mark",0,0,0,0]"#,
+    r#"["mark",256,0,0]"#,
+    r#"["marks",0,0,0]"#,
+    r#"["cool",0,0]"#,
+    r#"["cool",0,0,1]"#,
+    r#"["cool",0,0,0,1]"#,
+    r#"["cool",0,0,[0]]"#,
+    r#"["cool",0,0,[0,1,2]]"#,
+    r#"["cool",0,0,[256,1]]"#,
+    r#"["cool",0,0,[0,18446744073709551616]]"#,
+    r#"["cool",0,0,[0,1],0]"#,
+    r#"["cool",0,256,[0,1]]"#,
+    r#"["submitcold",0,0]"#,
+    r#"["submitcold",0,0,{"client":7,"number":1,"op":["put",1]}]"#,
+    r#"["submitcold",0,0,{"client":7,"number":1,"op":["put",1,5]},0]"#,
+    r#"["submitcold",0,256,{"client":7,"number":1,"op":["put",1,5]}]"#,
     r#"["submit",0,0]"#,
     r#"["submit",0,0,{"client":7,"number":1,"op":["put",1]}]"#,
     r#"["submit",0,0,{"client":7,"number":1,"op":["put",1,5]},0]"#,
@@ -165,7 +254,7 @@ const NO_EVENTS: [&str; 35] = [
 ];
 
 /// Members of which one is missing, unknown or out of its range.
-const NO_SCRIPTS: [&str; 10] = [
+const NO_SCRIPTS: [&str; 19] = [
     r#""partitions":1,"replicas":1"#,
     r#""partitions":1,"events":[]"#,
     r#""replicas":1,"events":[]"#,
@@ -173,7 +262,16 @@ const NO_SCRIPTS: [&str; 10] = [
     r#""partitions":17,"replicas":1,"events":[]"#,
     r#""partitions":1,"replicas":0,"events":[]"#,
     r#""partitions":1,"replicas":8,"events":[]"#,
-    r#""partitions":1,"replicas":1,"events":[],"delay":1"#,
+    r#""partitions":1,"replicas":1,"events":[],"delay":17"#,
+    r#""partitions":1,"replicas":1,"events":[],"delay":-1"#,
+    r#""partitions":1,"replicas":1,"events":[],"delay":1.0"#,
+    r#""partitions":1,"replicas":1,"events":[],"delay":"1""#,
+    r#""partitions":1,"replicas":1,"events":[],"delay":null"#,
+    r#""partitions":1,"replicas":1,"events":[],"woven_from":281474976710656"#,
+    r#""partitions":1,"replicas":1,"events":[],"woven_from":-1"#,
+    r#""partitions":1,"replicas":1,"events":[],"woven_from":"a""#,
+    r#""partitions":1,"replicas":1,"events":[],"woven_from":null"#,
+    r#""partitions":1,"replicas":1,"events":[],"delays":1"#,
     r#""partitions":1,"replicas":1,"events":[],"expect":null"#,
     r#""partitions":1,"replicas":1,"events":[],"app":"stock""#,
 ];

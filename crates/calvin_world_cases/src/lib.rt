@@ -10,4 +10,6 @@ mod events;
 #[cfg(test)]
 mod moves;
 #[cfg(test)]
+mod points;
+#[cfg(test)]
 mod reports;

@@ -2,17 +2,16 @@
 use crate::checks::{holds, same};
 use calvin_app::Kv;
 use calvin_edge::{MemorySink, MemorySource};
-use calvin_lock::QueueLocks;
 use calvin_packets::Content;
 use calvin_schedule::{Restarts, Schedule};
 use calvin_sim::{Simulated, sim};
-use calvin_store::{PlainRows, Rows};
+use calvin_store::Rows;
 use calvin_types::{Key, NodeId, Place};
-use calvin_world::World;
+use calvin_world::StoreWorld;
 use std::alloc::Global;
 use std::process::Abort;
 
-type KvWorld = World<Kv, QueueLocks, PlainRows<u64>>;
+type KvWorld = StoreWorld<Kv>;
 
 const REPLICAS: u8 = 3;
 
@@ -27,16 +26,17 @@ fn key(id: u64) -> Key {
     Key { table: 0, id }
 }
 
-/// A world in which a script was run, whose text is this one: a schedule from a start number, of 1,000 events.
+/// A world in which a script was run, whose text is this one: a schedule from a start number, of so many events.
 fn world_of(
     rt: &impl Abort,
     alloc: Global,
     start: u64,
+    events: u32,
     restarts: Restarts,
     script: &str,
     text: &str,
 ) -> KvWorld {
-    let Some(schedule) = Schedule::new(start, 1000, REPLICAS, restarts) else {
+    let Some(schedule) = Schedule::new(start, events, REPLICAS, restarts) else {
         panic!(rt; "no schedule");
     };
     let mut input = MemorySource::new(script.as_bytes());
@@ -145,7 +145,7 @@ fn check(
     text: &str,
     end: End,
 ) {
-    let world = world_of(rt, alloc, start, restarts, script, text);
+    let world = world_of(rt, alloc, start, 1000, restarts, script, text);
     match end {
         End::Moved => ends_with(rt, &world, Some(6), Some(4)),
         End::Short => check_short(rt, &world),
@@ -183,4 +183,34 @@ fn sim_with_restarts(rt: HostRuntime) {
         let restarts = Restarts::AboveReplicaZero;
         check(&rt, rt.alloc(), start, restarts, MOVE, MOVED, End::Moved);
     }
+}
+
+/// Whether a point is open at some node, and whether a row is cold at some node.
+fn has_point_and_cold_row(world: &KvWorld) -> (bool, bool) {
+    let (mut has_point, mut has_cold_row) = (false, false);
+    for replica in 0..REPLICAS {
+        for (partition, id) in [(0, 2), (1, 1)] {
+            if let Some(node) = world.node(NodeId { replica, partition }) {
+                let rows = node.rows();
+                has_point = has_point || rows.marked().is_some();
+                let has_row = rows.get(&key(id)).is_some();
+                has_cold_row = has_cold_row || (has_row && !rows.is_hot(&key(id)));
+            }
+        }
+    }
+    (has_point, has_cold_row)
+}
+
+#[test]
+fn sim_over_points_and_cold_rows(rt: HostRuntime) {
+    let (mut has_point, mut has_cold_row) = (false, false);
+    for start in 1..11 {
+        let restarts = Restarts::AboveReplicaZero;
+        let world = world_of(&rt, rt.alloc(), start, 3000, restarts, MOVE, MOVED);
+        ends_with(&rt, &world, Some(6), Some(4));
+        let (point, cold_row) = has_point_and_cold_row(&world);
+        has_point = has_point || point;
+        has_cold_row = has_cold_row || cold_row;
+    }
+    holds(&rt, has_point && has_cold_row);
 }

@@ -4,7 +4,7 @@ use calvin_app::{Kv, KvRequest};
 use calvin_lock::{ListLocks, Locks, QueueLocks};
 use calvin_node::Act;
 use calvin_report::{Epochs, finished, push_nodes, push_outcomes, push_replies, replies_of};
-use calvin_store::PlainRows;
+use calvin_store::ColdRows;
 use calvin_text::push_last;
 use calvin_types::{Config, Fault, KeySet, NodeId, Place, RequestId, Sets, Txn};
 use calvin_world::{Event, Outcome, World};
@@ -42,7 +42,7 @@ fn own(act: Act<KvRequest>) -> Event<KvRequest> {
 fn push_told<L: Locks + Drop>(
     text: &mut Vec<u8>,
     alloc: Global,
-    world: &World<Kv, L, PlainRows<u64>>,
+    world: &World<Kv, L, ColdRows<u64>>,
     outcomes: &[Outcome],
     epochs: Epochs,
 ) -> Result<(), Fault> {
@@ -59,7 +59,7 @@ fn push_told<L: Locks + Drop>(
 /// What is told of one node after these events.
 fn told_of<L: Locks + Drop>(
     alloc: Global,
-    world: &mut World<Kv, L, PlainRows<u64>>,
+    world: &mut World<Kv, L, ColdRows<u64>>,
     events: &[Event<KvRequest>],
     epochs: Epochs,
 ) -> Result<Vec<u8>, Fault> {
@@ -77,7 +77,7 @@ fn told<L: Locks + Drop>(
     epochs: Epochs,
 ) -> Result<Vec<u8>, Fault> {
     let config = Config::new(1, 1)?;
-    let mut world: World<Kv, L, PlainRows<u64>> = World::new(alloc, &config, Kv)?;
+    let mut world: World<Kv, L, ColdRows<u64>> = World::new(alloc, &config, Kv)?;
     told_of(alloc, &mut world, events, epochs)
 }
 

@@ -6,9 +6,8 @@ use Rattle.calvin_serial.proofs.scouted.scouted_epoch.Goals as goal
 pub loop-place-init : goal.loop-place-init
 loop-place-init g c =
     let found = scouted_epoch g.A.App.meaning c.args.rows.now in
-    let all = c.into_iter-place-iterator.ensures.into_iter_gives ∙ c.new-place-items.ensures in
     ap (λ none. behind none (found c.into_iter-place-iterator.result)) c.new-scouted.ensures.items
-    ∙ behind_none (found c.into_iter-place-iterator.result) ∙ ap found all
+    ∙ behind_none (found c.into_iter-place-iterator.result) ∙ ap found (c.into_iter-place-iterator.ensures.into_iter_gives ∙ c.requests_in-place-items.ensures)
 
 pub loop-place-preserved : goal.loop-place-preserved
 loop-place-preserved g c =

@@ -1,11 +1,12 @@
-use Rattle.std.proofs.Common.{◌++◌, sym, ap, ◌∙◌, map, vec_len, append-nil, arith}
+use Rattle.std.proofs.Common.{◌++◌, sym, subst, ap, ◌∙◌, map, vec_len, append-nil, arith}
+use Rattle.std.specs.Prelude.{OnOk}
 use Rattle.std.proofs.lemmas.Bool.{eqb-true}
 use Rattle.calvin_app.specs.Serial.{serial}
 use Rattle.calvin_script.specs.Scripts.{contents}
 use Rattle.calvin_text.specs.Texts.{lines}
+use Rattle.calvin_serial.specs.Scouting.{placed_txn, RunsOn}
 use Rattle.calvin_serial.proofs.Blanks.{none_listed}
-use Rattle.calvin_serial.proofs.Requests.{placed_txn, txns_merged}
-use Rattle.calvin_serial.proofs.Runs.{one_line, one_row}
+use Rattle.calvin_serial.proofs.Requests.{txns_merged}
 use Rattle.calvin_serial.proofs.text.push_epoch.Goals as goal
 
 pub returns-then-is_empty-clause-ok : goal.returns-then-is_empty-clause-ok
@@ -18,27 +19,14 @@ returns-then-is_empty-clause-ok g c =
       after = ap (λ placed. (serial m (map (λ e. e.1) placed) c.args.store.now).0) (sym nothing);
     }
 
-pub loop-place-init : goal.loop-place-init
-loop-place-init g c =
-    let m = g.A.App.meaning in
-    let show = g.A.Reply.Printed.printed in
-    let all = ap (map placed_txn) (c.into_iter-place-iterator.ensures.into_iter_gives ∙ c.new-place-items.ensures) ∙ txns_merged (contents c.args.script.now) c.args.epoch in
-    record {
-      text = ap (λ placed. c.args.text.now.items ++ lines show placed (serial m (map (λ e. e.1) placed) c.args.store.now).1) all;
-      rows = ap (λ placed. (serial m (map (λ e. e.1) placed) c.args.store.now).0) all;
-    }
+pub returns-then-is_woven-clause-ok : goal.returns-then-is_woven-clause-ok
+returns-then-is_woven-clause-ok g c =
+    let all = ap (map placed_txn) c.requests_in-requests.ensures ∙ txns_merged (contents c.args.script.now) c.args.epoch in
+    let new = c.push_requests.new in
+    subst (λ placed. OnOk c.push_requests.result (RunsOn g.A.App.meaning g.A.Reply.Printed.printed placed c.args.store.now new.store c.args.text.now.items new.text.items)) all c.push_requests.ensures.ok
 
-pub loop-place-preserved : goal.loop-place-preserved
-loop-place-preserved g c =
-    let m = g.A.App.meaning in
-    let show = g.A.Reply.Printed.printed in
-    let t = c.in-Some.kept.now.txn in
-    let order = map placed_txn c.loop-place.place-iterator in
-    let rest = map placed_txn c.next.new.self in
-    let here = ap (map placed_txn) c.in-Some.ensures.steps in
-    let pushed = c.in_ok-push_kept.ensures in
-    let new = c.push_kept.new in
-    record {
-      text = one_line m show c.in-Some.place t order rest here c.loop-place.store new.store pushed.rows c.loop-place.text.items new.text.items _ pushed.line c.loop-place.invariant.text;
-      rows = one_row m show c.in-Some.place t order rest here c.loop-place.store new.store pushed.rows _ c.loop-place.invariant.rows;
-    }
+pub returns-clause-ok : goal.returns-clause-ok
+returns-clause-ok g c =
+    let all = ap (map placed_txn) c.joined_requests-requests.ensures ∙ txns_merged (contents c.args.script.now) c.args.epoch in
+    let new = c.push_requests-2.new in
+    subst (λ placed. OnOk c.push_requests-2.result (RunsOn g.A.App.meaning g.A.Reply.Printed.printed placed c.args.store.now new.store c.args.text.now.items new.text.items)) all c.push_requests-2.ensures.ok

@@ -1,14 +1,14 @@
 use denote.Memory.{lone}
 use Rattle.calvin_packets.proofs.PacketSizes.{packet_of}
-use Rattle.std.proofs.Common.{false, ◌++◌, ◌∙◌}
-use Rattle.calvin_acts.specs.Running.{config_of}
+use Rattle.std.proofs.Common.{false, ◌++◌, ◌∙◌, None}
+use Rattle.calvin_world.specs.RunningWorlds.{store_config}
 use Rattle.calvin_script.specs.Scripts.{contents}
 use Rattle.calvin_sim.proofs.Leading.{simulation_leads}
 use Rattle.calvin_sim.proofs.telling.simulate_and_tell.Goals as goal
 
 pub returns-clause-told : goal.returns-clause-told
 returns-clause-told g c =
-    let config = config_of c.args.script.now.partitions c.args.schedule.now.replicas false false 0 in
+    let config = store_config c.args.script.now.partitions c.args.schedule.now.replicas 0 c.args.script.now.woven_from in
     let world = c.in_ok-world.world in
     let leads = simulation_leads g.A.App.meaning config (contents c.args.script.now) world c.in_ok-world.ensures.ok in
     let laws = c.told_is_serial.ensures in

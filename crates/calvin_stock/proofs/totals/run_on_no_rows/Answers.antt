@@ -8,7 +8,7 @@ use Rattle.calvin_stock.specs.Stock.{stock}
 use Rattle.calvin_stock.specs.Totals.{cents_in, paid, stock_at, added, ordered}
 use Rattle.calvin_stock.proofs.CentsOfAll.{cents_hold}
 use Rattle.calvin_stock.proofs.Pieces.{pieces_hold}
-use Rattle.calvin_stock.proofs.Runs.{next_rows, next_answers, last_rows, last_answers}
+use Rattle.calvin_app.proofs.Runs.{next_rows, next_answers, last_rows, last_answers}
 use Rattle.calvin_stock.proofs.totals.run_on_no_rows.Goals as goal
 
 pub loop-txn-init : goal.loop-txn-init
@@ -23,15 +23,15 @@ loop-txn-preserved c =
     let all = serial stock c.args.txns.now finmap.empty in
     let here = slice_get_read c.args.txns.now (length c.args.txns.now) c.loop-txn.txn-index c.txn-item.result refl c.loop-txn-test.true c.txn-item.is in
     record {
-      rows = next_rows c.args.txns.now c.loop-txn.txn-index c.loop-txn.run c.loop-txn.answers.items all so.rows so.answers c.txn-item.result here c.apply.new.self c.in_ok-apply.ensures.ok;
-      answers = next_answers c.args.txns.now c.loop-txn.txn-index c.loop-txn.run c.loop-txn.answers.items all so.rows so.answers c.txn-item.result here c.apply.new.self c.in_ok-apply.ensures.ok c.in_ok-apply.field-0 c.push.new.self.items c.in_ok-apply.ensures.answer c.in_ok-push.ensures.items;
+      rows = next_rows stock c.args.txns.now c.loop-txn.txn-index c.loop-txn.run c.loop-txn.answers.items all so.rows so.answers c.txn-item.result here c.apply.new.self c.in_ok-apply.ensures.ok;
+      answers = next_answers stock c.args.txns.now c.loop-txn.txn-index c.loop-txn.run c.loop-txn.answers.items all so.rows so.answers c.txn-item.result here c.apply.new.self c.in_ok-apply.ensures.ok c.in_ok-apply.field-0 c.push.new.self.items c.in_ok-apply.ensures.answer c.in_ok-push.ensures.items;
     }
 
 rows_are : (c : goal.After-loop-txn) → c.loop-txn.run ≡ (serial stock c.args.txns.now finmap.empty).0
-rows_are c = last_rows c.args.txns.now c.loop-txn.txn-index c.loop-txn.run c.loop-txn.answers.items (serial stock c.args.txns.now finmap.empty) c.loop-txn.invariant.rows c.loop-txn.invariant.answers c.loop-txn-test.false
+rows_are c = last_rows stock c.args.txns.now c.loop-txn.txn-index c.loop-txn.run c.loop-txn.answers.items (serial stock c.args.txns.now finmap.empty) c.loop-txn.invariant.rows c.loop-txn.invariant.answers c.loop-txn-test.false
 
 answers_are : (c : goal.After-loop-txn) → c.loop-txn.answers.items ≡ (serial stock c.args.txns.now finmap.empty).1
-answers_are c = last_answers c.args.txns.now c.loop-txn.txn-index c.loop-txn.run c.loop-txn.answers.items (serial stock c.args.txns.now finmap.empty) c.loop-txn.invariant.rows c.loop-txn.invariant.answers c.loop-txn-test.false
+answers_are c = last_answers stock c.args.txns.now c.loop-txn.txn-index c.loop-txn.run c.loop-txn.answers.items (serial stock c.args.txns.now finmap.empty) c.loop-txn.invariant.rows c.loop-txn.invariant.answers c.loop-txn-test.false
 
 pub returns-clause-rows : goal.returns-clause-rows
 returns-clause-rows c = rows_are c

@@ -12,7 +12,8 @@ use Rattle.calvin_acts.specs.Growing.{act_grows}
 use Rattle.calvin_packets.specs.Packets.{to_each}
 use Rattle.calvin_acts.specs.NodeStates.{site_of}
 use Rattle.calvin_acts.specs.Layers.{rest_of, state_of}
-use Rattle.calvin_acts.specs.Running.{NodeDid, config_of}
+use Rattle.calvin_order.specs.Configs.{over}
+use Rattle.calvin_acts.specs.Running.{NodeDid}
 use Rattle.calvin_sched.proofs.Begins.{has_begun}
 use Rattle.calvin_acts.proofs.Settling.{running, left_then}
 use Rattle.calvin_acts.proofs.Beginning.{begun}
@@ -23,11 +24,11 @@ returns-then-not-reads_here g c =
     let p = c.self.inside in
     let below = rest_of g.S.Rows.points g.S.Rows.cold p.pending.items p.scheduler p.kept in
     let x = state_of p.layer below in
-    let config = config_of p.layer.partitions p.layer.replicas g.S.Rows.points g.S.Rows.cold p.layer.delay in
+    let config = over p.layer.config g.S.Rows.points g.S.Rows.cold in
     let reply = g.row.A-Reply.Denot in
     let s = c.begin_in_place.new.self.scheduling in
     let sent = c.args.outbox.now.packets in
-    let here = site_of p.layer.partitions x in
+    let here = site_of p.layer.config.partitions x in
     let begun_here = has_begun here c.args.place p.scheduler.scheduling s (subst (λ h. Did false (Ok tt) (steps.silently (steps.begin h c.args.place p.scheduler.scheduling)) p.scheduler.scheduling s) c.self.invariant.here c.in_ok-begin_in_place.ensures.did) in
     let out = steps.serving here begun_here.0 in
     let did = begun_here.2 in
@@ -44,12 +45,12 @@ returns g c =
     let p = c.self.inside in
     let below = rest_of g.S.Rows.points g.S.Rows.cold p.pending.items p.scheduler p.kept in
     let x = state_of p.layer below in
-    let config = config_of p.layer.partitions p.layer.replicas g.S.Rows.points g.S.Rows.cold p.layer.delay in
+    let config = over p.layer.config g.S.Rows.points g.S.Rows.cold in
     let reply = g.row.A-Reply.Denot in
     let s = c.begin_in_place-2.new.self.scheduling in
     let sent = c.args.outbox.now.packets in
     let all = c.post_served.new.outbox.packets in
-    let here = site_of p.layer.partitions x in
+    let here = site_of p.layer.config.partitions x in
     let begun_here = has_begun here c.args.place p.scheduler.scheduling s (subst (λ h. Did false (Ok tt) (steps.silently (steps.begin h c.args.place p.scheduler.scheduling)) p.scheduler.scheduling s) c.self.invariant.here c.in_ok-begin_in_place-2.ensures.did) in
     let out = steps.serving here begun_here.0 in
     let did = begun_here.2 in

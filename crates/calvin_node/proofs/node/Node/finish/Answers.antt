@@ -8,7 +8,8 @@ use Rattle.calvin_packets.specs.declared.packet.Address.TheVariants.{AtClient}
 use Rattle.calvin_packets.specs.declared.packet.Content.TheVariants.{Replies}
 use Rattle.calvin_acts.specs.NodeStates.{site_of}
 use Rattle.calvin_acts.specs.Layers.{rest_of, state_of}
-use Rattle.calvin_acts.specs.Running.{NodeFinished, config_of}
+use Rattle.calvin_order.specs.Configs.{over}
+use Rattle.calvin_acts.specs.Running.{NodeFinished}
 use Rattle.calvin_packets.proofs.PacketSizes.{packet_of}
 use Rattle.calvin_acts.proofs.Settling.{running, left_then, left_again, unchanged}
 use Rattle.calvin_acts.proofs.Beginning.{finished, on_ok, cause}
@@ -29,7 +30,7 @@ returns-in_err-answer g c =
     let p = c.self.inside in
     let below = rest_of g.S.Rows.points g.S.Rows.cold p.pending.items p.scheduler p.kept in
     let x = state_of p.layer below in
-    let config = config_of p.layer.partitions p.layer.replicas g.S.Rows.points g.S.Rows.cold p.layer.delay in
+    let config = over p.layer.config g.S.Rows.points g.S.Rows.cold in
     let reply = g.row.A-Reply.Denot in
     let s = c.finish.new.self.scheduling in
     let j = c.args.computed.now.job in
@@ -51,7 +52,7 @@ returns g c =
     let p = c.self.inside in
     let below = rest_of g.S.Rows.points g.S.Rows.cold p.pending.items p.scheduler p.kept in
     let x = state_of p.layer below in
-    let config = config_of p.layer.partitions p.layer.replicas g.S.Rows.points g.S.Rows.cold p.layer.delay in
+    let config = over p.layer.config g.S.Rows.points g.S.Rows.cold in
     let reply = g.row.A-Reply.Denot in
     let s = c.finish.new.self.scheduling in
     let j = c.args.computed.now.job in

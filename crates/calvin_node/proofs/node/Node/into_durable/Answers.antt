@@ -1,4 +1,4 @@
-use Rattle.std.proofs.Common.{None, ◌∙◌}
+use Rattle.std.proofs.Common.{◌∙◌}
 use Rattle.calvin_acts.specs.Durables.{durable_of}
 use Rattle.calvin_acts.specs.Running.{kept_epochs, kept_rows}
 use Rattle.calvin_node.proofs.node.Node.into_durable.Goals as goal
@@ -11,6 +11,6 @@ returns g c =
       used = (c.into_record.ensures i).used;
       kept_epochs = kept_epochs kept;
       kept_rows = kept_rows kept;
-      woven_from = None;
+      woven_from = c.config.ensures.woven_from i;
     })
     ∙ (λ i. durable_of (c.self.view_is i).config (c.self.view_is i).state)

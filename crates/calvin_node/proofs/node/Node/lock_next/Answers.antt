@@ -8,7 +8,8 @@ use Rattle.calvin_acts.specs.declared.act.Act.TheVariants.{Lock}
 use Rattle.calvin_acts.specs.Acting as acting
 use Rattle.calvin_acts.specs.Growing.{act_grows}
 use Rattle.calvin_acts.specs.Layers.{rest_of, state_of}
-use Rattle.calvin_acts.specs.Running.{NodeDid, config_of}
+use Rattle.calvin_order.specs.Configs.{over}
+use Rattle.calvin_acts.specs.Running.{NodeDid}
 use Rattle.calvin_acts.proofs.Settling.{running, with_steps, left_again, locked, not_locked, first_and_rest}
 use Rattle.calvin_node.proofs.node.Node.lock_next.Goals as goal
 
@@ -17,12 +18,12 @@ returns-in_err-admit g c =
     let p = c.self.inside in
     let below = rest_of g.S.Rows.points g.S.Rows.cold p.pending.items p.scheduler p.kept in
     let x = state_of p.layer below in
-    let config = config_of p.layer.partitions p.layer.replicas g.S.Rows.points g.S.Rows.cold p.layer.delay in
+    let config = over p.layer.config g.S.Rows.points g.S.Rows.cold in
     let e = c.in-Some.field-0.now in
     let rest = drop 1 p.pending.items in
     let there = first_and_rest p.pending.items e c.in-Some.ensures.item.3.0 c.in-Some.ensures.lookup in
     let refused = err_from_is_err_and c.from_residual.result c.from_residual.ensures.1 in
-    let here = site p.layer.partitions p.layer.id.partition in
+    let here = site p.layer.config.partitions p.layer.id.partition in
     let s = c.admit.new.self.scheduling in
     let undone = c.due_is_undone.ensures in
     let did = subst (λ h. Did {Out = Unit {0}} (has_local_key h e.1) (Err c.in_err-admit.field-0.0) (steps.admit h e.0 e.1 p.scheduler.scheduling) p.scheduler.scheduling s) c.self.invariant.here c.in_err-admit.ensures.did in
@@ -41,11 +42,11 @@ returns g c =
     let p = c.self.inside in
     let below = rest_of g.S.Rows.points g.S.Rows.cold p.pending.items p.scheduler p.kept in
     let x = state_of p.layer below in
-    let config = config_of p.layer.partitions p.layer.replicas g.S.Rows.points g.S.Rows.cold p.layer.delay in
+    let config = over p.layer.config g.S.Rows.points g.S.Rows.cold in
     let e = c.in-Some.field-0.now in
     let rest = drop 1 p.pending.items in
     let there = first_and_rest p.pending.items e c.in-Some.ensures.item.3.0 c.in-Some.ensures.lookup in
-    let here = site p.layer.partitions p.layer.id.partition in
+    let here = site p.layer.config.partitions p.layer.id.partition in
     let s = c.admit.new.self.scheduling in
     let undone = c.due_is_undone.ensures in
     let did = subst (λ h. Did (has_local_key h e.1) (Ok tt) (steps.admit h e.0 e.1 p.scheduler.scheduling) p.scheduler.scheduling s) c.self.invariant.here c.in_ok-admit.ensures.did in

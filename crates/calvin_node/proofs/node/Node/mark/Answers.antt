@@ -4,7 +4,8 @@ use Rattle.calvin_sched.specs.Progress.{left}
 use Rattle.calvin_sched.specs.Standing as standing
 use Rattle.calvin_acts.specs.Acting as acting
 use Rattle.calvin_acts.specs.Layers.{rest_of, state_of}
-use Rattle.calvin_acts.specs.Running.{NodeDid, config_of}
+use Rattle.calvin_order.specs.Configs.{over}
+use Rattle.calvin_acts.specs.Running.{NodeDid}
 use Rattle.calvin_acts.proofs.Settling.{running, left_again, scheduled}
 use Rattle.calvin_node.proofs.node.Node.mark.Goals as goal
 
@@ -13,7 +14,7 @@ returns g c =
     let p = c.self.inside in
     let below = rest_of g.S.Rows.points g.S.Rows.cold p.pending.items p.scheduler p.kept in
     let x = state_of p.layer below in
-    let config = config_of p.layer.partitions p.layer.replicas g.S.Rows.points g.S.Rows.cold p.layer.delay in
+    let config = over p.layer.config g.S.Rows.points g.S.Rows.cold in
     let s = c.mark.new.self.scheduling in
     let next : c.args.epoch + 1 ≡ suc c.args.epoch = omega arith in
     let did = subst (λ n. Did false c.mark.result (standing.mark g.S.Rows.points n p.scheduler.scheduling) p.scheduler.scheduling s) next c.mark.ensures.did in

@@ -9,7 +9,8 @@ use Rattle.calvin_acts.specs.declared.act.Act.TheVariants.{Merge}
 use Rattle.calvin_acts.specs.Acting as acting
 use Rattle.calvin_acts.specs.Growing.{act_grows, is_some_request}
 use Rattle.calvin_acts.specs.Layers.{IsNode, rest_of, state_of, node_of}
-use Rattle.calvin_acts.specs.Running.{NodeDid, config_of}
+use Rattle.calvin_order.specs.Configs.{over}
+use Rattle.calvin_acts.specs.Running.{NodeDid}
 use Rattle.calvin_acts.proofs.Settling.{running}
 use Rattle.calvin_acts.proofs.Merges.{complete_is, wanting, not_given, untold, merging, some_request}
 use Rattle.calvin_node.proofs.node.Node.merge.Goals as goal
@@ -19,7 +20,7 @@ returns-in_err-requests g c =
     let p = c.self.inside in
     let below = rest_of g.S.Rows.points g.S.Rows.cold p.pending.items p.scheduler p.kept in
     let x = state_of p.layer below in
-    let config = config_of p.layer.partitions p.layer.replicas g.S.Rows.points g.S.Rows.cold p.layer.delay in
+    let config = over p.layer.config g.S.Rows.points g.S.Rows.cold in
     let reply = g.row.A-Reply.Denot in
     let failed = err_from_is_err_and c.from_residual.result c.from_residual.ensures.1 in
     let e = c.in_err-requests.field-0.0 in
@@ -27,7 +28,7 @@ returns-in_err-requests g c =
     record {
       did = subst (λ v. NodeDid {Reply = reply} (act_grows v.config Merge v.state) c.from_residual.result (acting.merge v.config v.state) v v [] []) c.self.view_is
           (subst (λ r. NodeDid {Reply = reply} (act_grows config Merge x) r (acting.merge config x) (running config x) (running config x) [] []) (sym (failed.1 ∙ ap Err failed.2))
-          (not_given reply config p.layer below e given.only given.not_complete.0 given.not_complete.1 refl));
+          (not_given reply config p.layer below e given.only given.not_complete.0 given.not_complete.1));
     }
 
 pub returns-in_err-reserve_merged : goal.returns-in_err-reserve_merged
@@ -35,7 +36,7 @@ returns-in_err-reserve_merged g c =
     let p = c.self.inside in
     let below = rest_of g.S.Rows.points g.S.Rows.cold p.pending.items p.scheduler p.kept in
     let x = state_of p.layer below in
-    let config = config_of p.layer.partitions p.layer.replicas g.S.Rows.points g.S.Rows.cold p.layer.delay in
+    let config = over p.layer.config g.S.Rows.points g.S.Rows.cold in
     let reply = g.row.A-Reply.Denot in
     let held = c.in_ok-requests.ensures.complete in
     let full = complete_is reply config p.layer below held in
@@ -54,7 +55,7 @@ invariant_of-self-in_err-merged g c =
     let p = c.self.inside in
     let below = rest_of g.S.Rows.points g.S.Rows.cold p.pending.items p.scheduler p.kept in
     let x = state_of p.layer below in
-    let config = config_of p.layer.partitions p.layer.replicas g.S.Rows.points g.S.Rows.cold p.layer.delay in
+    let config = over p.layer.config g.S.Rows.points g.S.Rows.cold in
     let reply = g.row.A-Reply.Denot in
     let held = c.in_ok-requests.ensures.complete in
     let full = complete_is reply config p.layer below held in
@@ -67,7 +68,7 @@ returns-in_err-merged g c =
     let p = c.self.inside in
     let below = rest_of g.S.Rows.points g.S.Rows.cold p.pending.items p.scheduler p.kept in
     let x = state_of p.layer below in
-    let config = config_of p.layer.partitions p.layer.replicas g.S.Rows.points g.S.Rows.cold p.layer.delay in
+    let config = over p.layer.config g.S.Rows.points g.S.Rows.cold in
     let reply = g.row.A-Reply.Denot in
     let held = c.in_ok-requests.ensures.complete in
     let full = complete_is reply config p.layer below held in
@@ -87,7 +88,7 @@ returns g c =
     let p = c.self.inside in
     let below = rest_of g.S.Rows.points g.S.Rows.cold p.pending.items p.scheduler p.kept in
     let x = state_of p.layer below in
-    let config = config_of p.layer.partitions p.layer.replicas g.S.Rows.points g.S.Rows.cold p.layer.delay in
+    let config = over p.layer.config g.S.Rows.points g.S.Rows.cold in
     let reply = g.row.A-Reply.Denot in
     let full = complete_is reply config p.layer below c.in_ok-requests.ensures.complete in
     let is = c.in_ok-requests.ensures.merged in

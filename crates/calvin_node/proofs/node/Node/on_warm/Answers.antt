@@ -5,7 +5,8 @@ use Rattle.calvin_sched.specs.Standing as standing
 use Rattle.calvin_packets.specs.declared.packet.Content.TheVariants.{Warm}
 use Rattle.calvin_acts.specs.Handling as handling
 use Rattle.calvin_acts.specs.Layers.{rest_of, state_of}
-use Rattle.calvin_acts.specs.Running.{NodeDid, config_of}
+use Rattle.calvin_order.specs.Configs.{over}
+use Rattle.calvin_acts.specs.Running.{NodeDid}
 use Rattle.calvin_acts.proofs.Settling.{running, left_again, scheduled}
 use Rattle.calvin_node.proofs.node.Node.on_warm.Goals as goal
 
@@ -14,7 +15,7 @@ returns g c =
     let p = c.self.inside in
     let below = rest_of g.S.Rows.points g.S.Rows.cold p.pending.items p.scheduler p.kept in
     let x = state_of p.layer below in
-    let config = config_of p.layer.partitions p.layer.replicas g.S.Rows.points g.S.Rows.cold p.layer.delay in
+    let config = over p.layer.config g.S.Rows.points g.S.Rows.cold in
     let reply = g.row.A-Reply.Denot in
     let s = c.warm.new.self.scheduling in
     record {

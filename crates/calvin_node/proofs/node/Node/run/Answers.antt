@@ -12,7 +12,8 @@ use Rattle.calvin_packets.specs.declared.packet.Content.TheVariants.{Replies}
 use Rattle.calvin_acts.specs.Acting as acting
 use Rattle.calvin_acts.specs.NodeStates.{site_of}
 use Rattle.calvin_acts.specs.Layers.{rest_of, state_of}
-use Rattle.calvin_acts.specs.Running.{NodeDid, config_of}
+use Rattle.calvin_order.specs.Configs.{over}
+use Rattle.calvin_acts.specs.Running.{NodeDid}
 use Rattle.calvin_acts.proofs.Settling.{running, left_then, left_again, unchanged}
 use Rattle.calvin_acts.proofs.Beginning.{on_ok}
 use Rattle.calvin_acts.proofs.Ran.{not_run, ran}
@@ -26,7 +27,7 @@ returns-in_err-name g c =
     let p = c.self.inside in
     let below = rest_of g.S.Rows.points g.S.Rows.cold p.pending.items p.scheduler p.kept in
     let x = state_of p.layer below in
-    let config = config_of p.layer.partitions p.layer.replicas g.S.Rows.points g.S.Rows.cold p.layer.delay in
+    let config = over p.layer.config g.S.Rows.points g.S.Rows.cold in
     let m = g.A.App.meaning in
     let sent = c.args.outbox.now.packets in
     let s = c.run.new.self.scheduling in
@@ -47,7 +48,7 @@ returns g c =
     let p = c.self.inside in
     let below = rest_of g.S.Rows.points g.S.Rows.cold p.pending.items p.scheduler p.kept in
     let x = state_of p.layer below in
-    let config = config_of p.layer.partitions p.layer.replicas g.S.Rows.points g.S.Rows.cold p.layer.delay in
+    let config = over p.layer.config g.S.Rows.points g.S.Rows.cold in
     let m = g.A.App.meaning in
     let sent = c.args.outbox.now.packets in
     let s = c.run.new.self.scheduling in

@@ -8,7 +8,8 @@ use Rattle.calvin_sched.specs.Progress.{left}
 use Rattle.calvin_sched.specs.Standing.{take_rows}
 use Rattle.calvin_acts.specs.Acting as acting
 use Rattle.calvin_acts.specs.Layers.{rest_of, state_of}
-use Rattle.calvin_acts.specs.Running.{NodeDid, config_of, kept_epochs}
+use Rattle.calvin_order.specs.Configs.{over}
+use Rattle.calvin_acts.specs.Running.{NodeDid, kept_epochs}
 use Rattle.calvin_acts.proofs.Settling.{running, left_again, not_taken, taken}
 use Rattle.calvin_node.proofs.node.Node.snapshot.Goals as goal
 
@@ -17,7 +18,7 @@ returns-in_err-can_take g c =
     let p = c.self.inside in
     let below = rest_of g.S.Rows.points g.S.Rows.cold p.pending.items p.scheduler p.kept in
     let x = state_of p.layer below in
-    let config = config_of p.layer.partitions p.layer.replicas g.S.Rows.points g.S.Rows.cold p.layer.delay in
+    let config = over p.layer.config g.S.Rows.points g.S.Rows.cold in
     let next : c.args.epoch + 1 ≡ suc c.args.epoch = omega arith in
     let same : take_rows p.scheduler.merged p.scheduler.due (c.args.epoch + 1) p.scheduler.scheduling ≡ take_rows x.merged_epochs x.due (suc c.args.epoch) x.scheduler = λ i. take_rows (c.self.invariant.merged i) ((sym c.due_is_undone.ensures) i) (next i) p.scheduler.scheduling in
     let refused = err_from_is_err_and c.from_residual.result c.from_residual.ensures.1 in
@@ -32,7 +33,7 @@ returns-in_err-rows g c =
     let p = c.self.inside in
     let below = rest_of g.S.Rows.points g.S.Rows.cold p.pending.items p.scheduler p.kept in
     let x = state_of p.layer below in
-    let config = config_of p.layer.partitions p.layer.replicas g.S.Rows.points g.S.Rows.cold p.layer.delay in
+    let config = over p.layer.config g.S.Rows.points g.S.Rows.cold in
     let next : c.args.epoch + 1 ≡ suc c.args.epoch = omega arith in
     let s = c.take.new.self.scheduling in
     let same : take_rows p.scheduler.merged p.scheduler.due (c.args.epoch + 1) p.scheduler.scheduling ≡ take_rows x.merged_epochs x.due (suc c.args.epoch) x.scheduler = λ i. take_rows (c.self.invariant.merged i) ((sym c.due_is_undone.ensures) i) (next i) p.scheduler.scheduling in
@@ -53,7 +54,7 @@ returns g c =
     let p = c.self.inside in
     let below = rest_of g.S.Rows.points g.S.Rows.cold p.pending.items p.scheduler p.kept in
     let x = state_of p.layer below in
-    let config = config_of p.layer.partitions p.layer.replicas g.S.Rows.points g.S.Rows.cold p.layer.delay in
+    let config = over p.layer.config g.S.Rows.points g.S.Rows.cold in
     let next : c.args.epoch + 1 ≡ suc c.args.epoch = omega arith in
     let s = c.take.new.self.scheduling in
     let same : take_rows p.scheduler.merged p.scheduler.due (c.args.epoch + 1) p.scheduler.scheduling ≡ take_rows x.merged_epochs x.due (suc c.args.epoch) x.scheduler = λ i. take_rows (c.self.invariant.merged i) ((sym c.due_is_undone.ensures) i) (next i) p.scheduler.scheduling in

@@ -5,8 +5,6 @@ use Rattle.calvin_order.proofs.merge.Merge.from_epoch.Goals as goal
 
 pub invariant_of-result : goal.invariant_of-result
 invariant_of-result g c = record {
-  some = c.args.config.now.in_range.some_partition;
-  few = c.args.config.now.in_range.partitions_at_most;
   in_range = subst (λ h. EpochsFit h.batches) (sym c.new.ensures) (none_in_range _);
   none_kept = c.new-2.ensures.items;
 }

@@ -10,8 +10,8 @@ use Rattle.calvin_packets.proofs.PacketSizes.{packet_of}
 use Rattle.calvin_acts.specs.Acting as acting
 use Rattle.calvin_acts.specs.Handling.{NodeDeed}
 use Rattle.calvin_acts.specs.Layers.{layer_of, state_of, node_of}
-use Rattle.calvin_acts.specs.Running.{NodeDid, config_of}
-use Rattle.calvin_acts.proofs.Settling.{running, left_again, copied_some}
+use Rattle.calvin_acts.specs.Running.{NodeDid}
+use Rattle.calvin_acts.proofs.Settling.{running, left_again, copied_some, config_at}
 use Rattle.calvin_acts.proofs.Asks.{sends}
 use Rattle.calvin_sequencing.proofs.layer.SequencingLayer.ask_batch.Goals as goal
 
@@ -22,12 +22,12 @@ pub returns : goal.returns
 returns g c = record {
   did = λ rest.
       let p = c.self.inside in
-      let x = state_of (layer_of p.config.partitions p.config.replicas p.id p.member p.sequencer p.merge) rest in
-      let config = config_of p.config.partitions p.config.replicas rest.points rest.cold p.sequencer.delay in
+      let x = state_of (layer_of p.config p.id p.member p.sequencer p.merge) rest in
+      let config = config_at p.config rest.points rest.cold p.sequencer.delay in
       let sent = c.args.outbox.now.packets in
       let all = c.push.new.self.packets in
       let packets = record { from = p.id; to = AtNode c.args.of; content = AskBatch c.args.slot } ∷ [] in
-      let there = subst (λ v. (nat_lt c.args.of.replica v.replicas && nat_lt c.args.of.partition v.partitions && nat_lt c.args.slot.group v.partitions) ≡ true) (sym c.self.view_is) (sym c.is_there.ensures ∙ c.if-not-is_there.false) in
+      let there = subst (λ v. (nat_lt c.args.of.replica v.config.replicas && nat_lt c.args.of.partition v.config.partitions && nat_lt c.args.slot.group v.config.partitions) ≡ true) (sym c.self.view_is) (sym c.is_there.ensures ∙ c.if-not-is_there.false) in
       let free : contains_key p.merge.held c.args.slot ≡ false = sym (ap is_some c.held.ensures) ∙ copied_some c.held.result ∙ sym c.is_some.ensures ∙ c.if-is_some.false in
       let is = (λ i. cond (there i) (cond (contains_key p.merge.held c.args.slot) (Refuses Known) (Does x packets)) (Refuses NoNode)) ∙ (λ i. cond (free i) (Refuses Known) (Does x packets)) in
       subst (λ v. NodeDid true c.push.result (acting.ask_batch (node_of v rest).config c.args.slot c.args.of (node_of v rest).state) (node_of v rest) (node_of v rest) sent all) c.self.view_is

@@ -9,4 +9,4 @@ returns-clause-next g c = subst (λ v. MatchOption c.next.result (v.merged_epoch
 pub returns-clause-complete : goal.returns-clause-complete
 returns-clause-complete g c all =
     let p = c.self.inside in
-    c.next.ensures.complete (subst (λ n. HoldsAll p.merge.held p.merge.next n) (sym c.self.invariant.groups) (subst (λ v. HoldsAll v.held v.merged_epochs v.partitions) (sym c.self.view_is) all))
+    c.next.ensures.complete (subst (λ m. HoldsAll p.merge.held p.merge.next m.partitions) (sym c.self.invariant.groups) (subst (λ v. HoldsAll v.held v.merged_epochs v.config.partitions) (sym c.self.view_is) all))

@@ -7,8 +7,8 @@ use Rattle.calvin_packets.specs.declared.packet.Content.TheVariants.{Decided}
 use Rattle.calvin_packets.proofs.PacketSizes.{packet_of}
 use Rattle.calvin_acts.specs.Handling as handling
 use Rattle.calvin_acts.specs.Layers.{layer_of, state_of, node_of}
-use Rattle.calvin_acts.specs.Running.{NodeDid, config_of}
-use Rattle.calvin_acts.proofs.Settling.{running, left_again}
+use Rattle.calvin_acts.specs.Running.{NodeDid}
+use Rattle.calvin_acts.proofs.Settling.{running, left_again, config_at}
 use Rattle.calvin_acts.proofs.Asks.{sends}
 use Rattle.calvin_sequencing.proofs.layer.SequencingLayer.on_ask_batch.Goals as goal
 
@@ -19,8 +19,8 @@ pub returns : goal.returns
 returns g c = record {
   did = λ rest.
       let p = c.self.inside in
-      let x = state_of (layer_of p.config.partitions p.config.replicas p.id p.member p.sequencer p.merge) rest in
-      let config = config_of p.config.partitions p.config.replicas rest.points rest.cold p.sequencer.delay in
+      let x = state_of (layer_of p.config p.id p.member p.sequencer p.merge) rest in
+      let config = config_at p.config rest.points rest.cold p.sequencer.delay in
       let sent = c.args.outbox.now.packets in
       let all = c.push.new.self.packets in
       let packets = record { from = p.id; to = AtNode c.args.from; content = Decided c.args.slot c.in_ok-batch.batch } ∷ [] in

@@ -5,8 +5,8 @@ use Rattle.calvin_synod.specs.Cases.{message_grows}
 use Rattle.calvin_packets.specs.Letters.{MemberSent, given_by}
 use Rattle.calvin_acts.specs.Handling as handling
 use Rattle.calvin_acts.specs.Layers.{layer_of, state_of, node_of}
-use Rattle.calvin_acts.specs.Running.{NodeDid, config_of}
-use Rattle.calvin_acts.proofs.Settling.{running, left_again}
+use Rattle.calvin_acts.specs.Running.{NodeDid}
+use Rattle.calvin_acts.proofs.Settling.{running, left_again, config_at}
 use Rattle.calvin_acts.proofs.Answered.{by_member, names_kept}
 use Rattle.calvin_sequencing.proofs.layer.SequencingLayer.on_letter.Goals as goal
 
@@ -19,19 +19,19 @@ invariant_of-self g c =
 pub returns-in_err-_none-clause-did : goal.returns-in_err-_none-clause-did
 returns-in_err-_none-clause-did g c rest =
     let p = c.self.inside in
-    let x = state_of (layer_of p.config.partitions p.config.replicas p.id p.member p.sequencer p.merge) rest in
-    let config = config_of p.config.partitions p.config.replicas rest.points rest.cold p.sequencer.delay in
+    let x = state_of (layer_of p.config p.id p.member p.sequencer p.merge) rest in
+    let config = config_at p.config rest.points rest.cold p.sequencer.delay in
     let reply = g.row.A-Reply.Denot in
     let sent = c.args.outbox.now.packets in
     let all = c.post_answer.new.self.packets in
     let after = c.post_answer.new.member in
     let grows = message_grows c.args.message.now in
     let deed = cases.handle p.config.replicas c.args.from c.args.message.now x.synod in
-    let none = subst (λ v. given_by (cases.handle v.replicas c.args.from c.args.message.now v.synod) ≡ None) (sym c.self.view_is) c.requires in
+    let none = subst (λ v. given_by (cases.handle v.config.replicas c.args.from c.args.message.now v.synod) ≡ None) (sym c.self.view_is) c.requires in
     let e = c.in_err-_none.field-0.0 in
     let failed = err_from_is_err_and c.from_residual.result c.from_residual.ensures.1 in
     let did = subst (λ n. MemberSent grows (Err e) (cases.handle n c.args.from c.args.message.now p.member.replica) p.config.replicas p.config.partitions p.id p.member after sent all) c.self.invariant.group_size c.in_err-_none.ensures.did in
-    subst (λ v. NodeDid {Reply = reply} grows c.from_residual.result (handling.by_synod (node_of v rest).config (node_of v rest).state (cases.handle v.replicas c.args.from c.args.message.now v.synod)) (node_of v rest) (running config (record x { synod = after.replica })) sent all) c.self.view_is
+    subst (λ v. NodeDid {Reply = reply} grows c.from_residual.result (handling.by_synod (node_of v rest).config (node_of v rest).state (cases.handle v.config.replicas c.args.from c.args.message.now v.synod)) (node_of v rest) (running config (record x { synod = after.replica })) sent all) c.self.view_is
     (subst (λ r. NodeDid {Reply = reply} grows r (handling.by_synod config x deed) (running config x) (running config (record x { synod = after.replica })) sent all) (sym (failed.1 ∙ ap Err failed.2))
     (by_member reply config x (left_again rest.scheduler.scheduling rest.scheduler.due) sent grows p.member.size p.member.me deed (Err e) after all none did))
 
@@ -44,15 +44,15 @@ invariant_of-self-2 g c =
 pub returns-clause-did : goal.returns-clause-did
 returns-clause-did g c rest =
     let p = c.self.inside in
-    let x = state_of (layer_of p.config.partitions p.config.replicas p.id p.member p.sequencer p.merge) rest in
-    let config = config_of p.config.partitions p.config.replicas rest.points rest.cold p.sequencer.delay in
+    let x = state_of (layer_of p.config p.id p.member p.sequencer p.merge) rest in
+    let config = config_at p.config rest.points rest.cold p.sequencer.delay in
     let reply = g.row.A-Reply.Denot in
     let sent = c.args.outbox.now.packets in
     let all = c.post_answer.new.self.packets in
     let after = c.post_answer.new.member in
     let grows = message_grows c.args.message.now in
     let deed = cases.handle p.config.replicas c.args.from c.args.message.now x.synod in
-    let none = subst (λ v. given_by (cases.handle v.replicas c.args.from c.args.message.now v.synod) ≡ None) (sym c.self.view_is) c.requires in
+    let none = subst (λ v. given_by (cases.handle v.config.replicas c.args.from c.args.message.now v.synod) ≡ None) (sym c.self.view_is) c.requires in
     let did = subst (λ n. MemberSent grows (Ok c.in_ok-_none._none) (cases.handle n c.args.from c.args.message.now p.member.replica) p.config.replicas p.config.partitions p.id p.member after sent all) c.self.invariant.group_size c.in_ok-_none.ensures.did in
-    subst (λ v. NodeDid {Reply = reply} grows (Ok tt) (handling.by_synod (node_of v rest).config (node_of v rest).state (cases.handle v.replicas c.args.from c.args.message.now v.synod)) (node_of v rest) (running config (record x { synod = after.replica })) sent all) c.self.view_is
+    subst (λ v. NodeDid {Reply = reply} grows (Ok tt) (handling.by_synod (node_of v rest).config (node_of v rest).state (cases.handle v.config.replicas c.args.from c.args.message.now v.synod)) (node_of v rest) (running config (record x { synod = after.replica })) sent all) c.self.view_is
     (by_member reply config x (left_again rest.scheduler.scheduling rest.scheduler.due) sent grows p.member.size p.member.me deed (Ok c.in_ok-_none._none) after all none did)

@@ -9,8 +9,8 @@ use Rattle.calvin_packets.specs.Letters.{MemberSent}
 use Rattle.calvin_acts.specs.NodeStates.{own_slot}
 use Rattle.calvin_acts.specs.Acting as acting
 use Rattle.calvin_acts.specs.Layers.{layer_of, state_of, node_of}
-use Rattle.calvin_acts.specs.Running.{NodeDid, config_of}
-use Rattle.calvin_acts.proofs.Settling.{running, left_again, copied_some}
+use Rattle.calvin_acts.specs.Running.{NodeDid}
+use Rattle.calvin_acts.proofs.Settling.{running, left_again, copied_some, config_at}
 use Rattle.calvin_acts.proofs.Answered.{names_kept}
 use Rattle.calvin_acts.proofs.Proposals.{spent, not_closed, held_already, proposed}
 use Rattle.calvin_sequencing.proofs.layer.SequencingLayer.propose.Goals as goal
@@ -18,8 +18,8 @@ use Rattle.calvin_sequencing.proofs.layer.SequencingLayer.propose.Goals as goal
 pub returns-in_err-prepare_to_all-clause-did : goal.returns-in_err-prepare_to_all-clause-did
 returns-in_err-prepare_to_all-clause-did g c rest =
     let p = c.self.inside in
-    let x = state_of (layer_of p.config.partitions p.config.replicas p.id p.member p.sequencer p.merge) rest in
-    let config = config_of p.config.partitions p.config.replicas rest.points rest.cold p.sequencer.delay in
+    let x = state_of (layer_of p.config p.id p.member p.sequencer p.merge) rest in
+    let config = config_at p.config rest.points rest.cold p.sequencer.delay in
     let reply = g.row.A-Reply.Denot in
     let sent = c.args.outbox.now.packets in
     let is = left_again rest.scheduler.scheduling rest.scheduler.due in
@@ -32,8 +32,8 @@ returns-in_err-prepare_to_all-clause-did g c rest =
 pub returns-in_default-clause-did : goal.returns-in_default-clause-did
 returns-in_default-clause-did g c rest =
     let p = c.self.inside in
-    let x = state_of (layer_of p.config.partitions p.config.replicas p.id p.member p.sequencer p.merge) rest in
-    let config = config_of p.config.partitions p.config.replicas rest.points rest.cold p.sequencer.delay in
+    let x = state_of (layer_of p.config p.id p.member p.sequencer p.merge) rest in
+    let config = config_at p.config rest.points rest.cold p.sequencer.delay in
     let reply = g.row.A-Reply.Denot in
     let sent = c.args.outbox.now.packets in
     let is = left_again rest.scheduler.scheduling rest.scheduler.due in
@@ -43,8 +43,8 @@ returns-in_default-clause-did g c rest =
 pub returns-then-is_some-clause-did : goal.returns-then-is_some-clause-did
 returns-then-is_some-clause-did g c rest =
     let p = c.self.inside in
-    let x = state_of (layer_of p.config.partitions p.config.replicas p.id p.member p.sequencer p.merge) rest in
-    let config = config_of p.config.partitions p.config.replicas rest.points rest.cold p.sequencer.delay in
+    let x = state_of (layer_of p.config p.id p.member p.sequencer p.merge) rest in
+    let config = config_at p.config rest.points rest.cold p.sequencer.delay in
     let reply = g.row.A-Reply.Denot in
     let sent = c.args.outbox.now.packets in
     let is = left_again rest.scheduler.scheduling rest.scheduler.due in
@@ -63,8 +63,8 @@ invariant_of-self g c =
 pub returns-in_err-_none-clause-did : goal.returns-in_err-_none-clause-did
 returns-in_err-_none-clause-did g c rest =
     let p = c.self.inside in
-    let x = state_of (layer_of p.config.partitions p.config.replicas p.id p.member p.sequencer p.merge) rest in
-    let config = config_of p.config.partitions p.config.replicas rest.points rest.cold p.sequencer.delay in
+    let x = state_of (layer_of p.config p.id p.member p.sequencer p.merge) rest in
+    let config = config_at p.config rest.points rest.cold p.sequencer.delay in
     let reply = g.row.A-Reply.Denot in
     let sent = c.args.outbox.now.packets in
     let all = c.post_ballot.new.self.packets in
@@ -90,8 +90,8 @@ invariant_of-self-2 g c =
 pub returns-clause-did : goal.returns-clause-did
 returns-clause-did g c rest =
     let p = c.self.inside in
-    let x = state_of (layer_of p.config.partitions p.config.replicas p.id p.member p.sequencer p.merge) rest in
-    let config = config_of p.config.partitions p.config.replicas rest.points rest.cold p.sequencer.delay in
+    let x = state_of (layer_of p.config p.id p.member p.sequencer p.merge) rest in
+    let config = config_at p.config rest.points rest.cold p.sequencer.delay in
     let reply = g.row.A-Reply.Denot in
     let sent = c.args.outbox.now.packets in
     let all = c.post_ballot.new.self.packets in

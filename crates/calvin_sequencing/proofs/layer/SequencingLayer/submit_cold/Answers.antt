@@ -5,15 +5,15 @@ use Rattle.calvin_packets.specs.Packets.{warm_packets, participants}
 use Rattle.calvin_acts.specs.Acting as acting
 use Rattle.calvin_acts.specs.NodeStates.{with_sequencer}
 use Rattle.calvin_acts.specs.Layers.{layer_of, state_of, node_of}
-use Rattle.calvin_acts.specs.Running.{NodeDid, config_of}
-use Rattle.calvin_acts.proofs.Settling.{running, left_again, sequenced_and_sent}
+use Rattle.calvin_acts.specs.Running.{NodeDid}
+use Rattle.calvin_acts.proofs.Settling.{running, left_again, sequenced_and_sent, config_at}
 use Rattle.calvin_sequencing.proofs.layer.SequencingLayer.submit_cold.Goals as goal
 
 pub returns-clause-did : goal.returns-clause-did
 returns-clause-did g c rest =
     let p = c.self.inside in
-    let x = state_of (layer_of p.config.partitions p.config.replicas p.id p.member p.sequencer p.merge) rest in
-    let config = config_of p.config.partitions p.config.replicas rest.points rest.cold in
+    let x = state_of (layer_of p.config p.id p.member p.sequencer p.merge) rest in
+    let config = config_at p.config rest.points rest.cold in
     let s = c.submit_cold.new.self.sequencing in
     let sent = c.args.outbox.now.packets in
     let all = c.post_warm.new.self.packets in

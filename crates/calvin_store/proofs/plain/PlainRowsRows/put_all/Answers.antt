@@ -11,15 +11,15 @@ put-requires g c = omega (arith, c.loop-i.invariant.room, c.requires, c.loop-i-t
 
 pub loop-i-preserved : goal.loop-i-preserved
 loop-i-preserved g c = record {
-  so_far = ap (λ k. overwritten k.rows (drop (c.loop-i.i + 1) c.args.writes.now)) c.put.ensures
-      ∙ ap (overwritten c.loop-i.self.rows) (sym (drop_at c.args.writes.now c.loop-i.i c.at-row.result c.at-row.ensures))
+  so_far = ap (λ k. overwritten k.rows (drop (c.loop-i.i + 1) c.args.writes.now)) c.put.ensures.new
+      ∙ ap (overwritten c.loop-i.self-inside.table.rows) (sym (drop_at c.args.writes.now c.loop-i.i c.at-row.result c.at-row.ensures))
       ∙ c.loop-i.invariant.so_far;
-  room = omega (arith, ap (λ k. k.room) c.put.ensures, c.loop-i.invariant.room, c.requires, c.loop-i-test.true, c.len-i-end.ensures.len);
+  room = omega (arith, ap (λ k. k.room) c.put.ensures.new, c.loop-i.invariant.room, c.requires, c.loop-i-test.true, c.len-i-end.ensures.len);
 }
 
 pub returns-clause-store : goal.returns-clause-store
 returns-clause-store g c =
-    ap loaded (ap (overwritten c.loop-i.self.rows) (sym (drop_all c.loop-i.i c.args.writes.now (omega (arith, c.loop-i-test.false, c.len-i-end.ensures.len)))) ∙ c.loop-i.invariant.so_far)
+    ap loaded (ap (overwritten c.loop-i.self-inside.table.rows) (sym (drop_all c.loop-i.i c.args.writes.now (omega (arith, c.loop-i-test.false, c.len-i-end.ensures.len)))) ∙ c.loop-i.invariant.so_far)
     ∙ sym (put_at-loaded c.args._place c.args.writes.now c.args.self.now.rows)
 
 pub returns-clause-room : goal.returns-clause-room

@@ -1,11 +1,11 @@
-use Rattle.std.proofs.Common.{◌≡◌, ◌∷◌, map, codes, ap, ◌∙◌, arith}
+use Rattle.std.proofs.Common.{◌≡◌, ◌^◌, ◌∷◌, map, codes, ap, ◌∙◌, arith}
 use Rattle.json.specs.Token.{Token}
 use Rattle.serde_json.specs.Find.{as_str}
-use Rattle.calvin_script.specs.Spelling.{between, list}
+use Rattle.calvin_script.specs.Spelling.{below, between, list}
 use Rattle.calvin_script.specs.Scripts.{all_listed, batch}
 use Rattle.calvin_tokens.specs.Gathered.{HoldsScript}
 use Rattle.calvin_tokens.specs.Spelled.{Spells}
-use Rattle.calvin_tokens.proofs.Held.{member_read, partitions_held, app_held, epochs_held}
+use Rattle.calvin_tokens.proofs.Held.{member_read, partitions_held, app_held, epochs_held, woven_held}
 use Rattle.calvin_tokens.proofs.Steps.{string_spelled}
 use Rattle.calvin_tokens.proofs.script.ScriptMembersKeptObject.read_member.Goals as goal
 
@@ -31,3 +31,10 @@ returns-then-is_same-3 g c found h =
     let s = c.in_ok-list_of.ensures in
     member_read (list (list (batch G))) (map all_listed all.items) (HoldsScript G) 126 126 found c.args.name.now (codes "epochs") c.args.reader.now c.list_of.new.reader _ (c.is_same-3.ensures c.if-is_same-3.true) (omega arith) s
     (epochs_held G found s.piece c.args.self.now h all s.means)
+
+pub returns-then-is_same-4 : goal.returns-then-is_same-4
+returns-then-is_same-4 g c found h =
+    let G = g.Op.Operation.grammar in
+    let s = c.in_ok-epoch_value.ensures in
+    member_read (below (2 ^ 48)) c.in_ok-epoch_value.field-0 (HoldsScript G) 126 0 found c.args.name.now (codes "woven_from") c.args.reader.now c.epoch_value.new.reader _ (c.is_same-4.ensures c.if-is_same-4.true) (omega arith) s
+    (woven_held G found s.piece c.args.self.now h c.in_ok-epoch_value.field-0 s.means)

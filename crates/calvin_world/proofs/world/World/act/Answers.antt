@@ -2,7 +2,8 @@
 use Rattle.std.proofs.Common.{◌≡◌, ℕ, ◌<◌, length, Some, slice_get, slice_set, sym, ap, subst, ◌∙◌}
 use Rattle.std.proofs.lemmas.List.{length-map}
 use Rattle.std.proofs.lemmas.Option.{slice_get-get_or}
-use Rattle.calvin_acts.specs.Running.{Running, config_of}
+use Rattle.calvin_order.specs.Configs.{config_of}
+use Rattle.calvin_acts.specs.Running.{Running}
 use Rattle.calvin_world.specs.declared.event.Event.TheVariants.{At}
 use Rattle.calvin_world.specs.RunningWorlds.{world_of, IsReached}
 use Rattle.calvin_world.specs.SettledWorlds.{outcome_of, SettledStep}
@@ -21,7 +22,7 @@ index_mut-requires g c =
 pub invariant_of-self : goal.invariant_of-self
 invariant_of-self g c =
     let p = c.self.inside in
-    let config = config_of p.config.partitions p.config.replicas g.S.Rows.points g.S.Rows.cold p.config.delay in
+    let config = config_of p.config g.S.Rows.points g.S.Rows.cold in
     let at = c.in-Some.at in
     let within = subst (λ (n : ℕ). at < n) (ap (λ w. length w.nodes) (sym c.self.view_is) ∙ length-map p.nodes.items (λ (n : Running g.row.A-Args.Denot g.row.A-Row.Denot). n.state)) c.in-Some.ensures.1 in
     let there = slice_get-get_or p.nodes.items at c.index_mut.result.now within ∙ ap Some (sym c.index_mut.ensures.value) in
@@ -32,7 +33,7 @@ invariant_of-self g c =
 pub returns : goal.returns
 returns g c =
     let p = c.self.inside in
-    let config = config_of p.config.partitions p.config.replicas g.S.Rows.points g.S.Rows.cold p.config.delay in
+    let config = config_of p.config g.S.Rows.points g.S.Rows.cold in
     let at = c.in-Some.at in
     let within = subst (λ (n : ℕ). at < n) (ap (λ w. length w.nodes) (sym c.self.view_is) ∙ length-map p.nodes.items (λ (n : Running g.row.A-Args.Denot g.row.A-Row.Denot). n.state)) c.in-Some.ensures.1 in
     let there = slice_get-get_or p.nodes.items at c.index_mut.result.now within ∙ ap Some (sym c.index_mut.ensures.value) in

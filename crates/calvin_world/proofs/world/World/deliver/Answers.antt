@@ -7,7 +7,8 @@ use Rattle.calvin_packets.proofs.PacketSizes.{packet_of}
 use Rattle.calvin_types.specs.declared.fault.Fault.TheVariants.{NoPacket}
 use Rattle.calvin_acts.specs.Growing.{content_grows}
 use Rattle.calvin_acts.specs.Handling.{handle}
-use Rattle.calvin_acts.specs.Running.{Running, NodeDid, config_of}
+use Rattle.calvin_order.specs.Configs.{config_of}
+use Rattle.calvin_acts.specs.Running.{Running, NodeDid}
 use Rattle.calvin_world.specs.declared.event.Outcome.TheVariants.{Refused}
 use Rattle.calvin_world.specs.declared.event.Event.TheVariants.{Deliver}
 use Rattle.calvin_world.specs.RunningWorlds.{world_of, IsOpened, IsReached}
@@ -53,13 +54,13 @@ returns-in_default-index g c =
 pub invariant_of-self : goal.invariant_of-self
 invariant_of-self g c =
     let p = c.self.inside in
-    let config = config_of p.config.partitions p.config.replicas g.S.Rows.points g.S.Rows.cold p.config.delay in
+    let config = config_of p.config g.S.Rows.points g.S.Rows.cold in
     (c.self.invariant.0, subst (λ l. IsReached g.A.App.meaning (world_of config p.nodes.items l)) (sym c.in_default-lend.ensures.1) c.self.invariant.1)
 
 pub returns-in_default-lend : goal.returns-in_default-lend
 returns-in_default-lend g c =
     let p = c.self.inside in
-    let config = config_of p.config.partitions p.config.replicas g.S.Rows.points g.S.Rows.cold p.config.delay in
+    let config = config_of p.config g.S.Rows.points g.S.Rows.cold in
     let number = c.args.number in
     let reached = subst (λ w. IsReached g.A.App.meaning w) c.self.view_is c.self.invariant.1 in
     let none = subst (λ w. slice_get w.packets number ≡ None) c.self.view_is c.in_default-lend.ensures.0 in
@@ -69,7 +70,7 @@ returns-in_default-lend g c =
 pub invariant_of-self-2 : goal.invariant_of-self-2
 invariant_of-self-2 g c =
     let p = c.self.inside in
-    let config = config_of p.config.partitions p.config.replicas g.S.Rows.points g.S.Rows.cold p.config.delay in
+    let config = config_of p.config g.S.Rows.points g.S.Rows.cold in
     let at = c.in-Some.at in
     let within = subst (λ (n : ℕ). at < n) (ap (λ w. length w.nodes) (sym c.self.view_is) ∙ length-map p.nodes.items (λ (n : Running g.row.A-Args.Denot g.row.A-Row.Denot). n.state)) c.in-Some.ensures.1 in
     let there = slice_get-get_or p.nodes.items at c.index_mut.result.now within ∙ ap Some (sym c.index_mut.ensures.value) in
@@ -87,7 +88,7 @@ invariant_of-self-2 g c =
 pub returns : goal.returns
 returns g c =
     let p = c.self.inside in
-    let config = config_of p.config.partitions p.config.replicas g.S.Rows.points g.S.Rows.cold p.config.delay in
+    let config = config_of p.config g.S.Rows.points g.S.Rows.cold in
     let at = c.in-Some.at in
     let within = subst (λ (n : ℕ). at < n) (ap (λ w. length w.nodes) (sym c.self.view_is) ∙ length-map p.nodes.items (λ (n : Running g.row.A-Args.Denot g.row.A-Row.Denot). n.state)) c.in-Some.ensures.1 in
     let there = slice_get-get_or p.nodes.items at c.index_mut.result.now within ∙ ap Some (sym c.index_mut.ensures.value) in

@@ -1,0 +1,4 @@
+mod Again
+mod Inner
+mod LastKeys
+mod Lifted

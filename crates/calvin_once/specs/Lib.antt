@@ -1,0 +1,4 @@
+pub mod Once
+pub mod OnceExact
+pub mod OnceLaws
+pub mod ToldAgain

@@ -1,0 +1,58 @@
+//! The requests of an epoch in the order in which they are run.
+ghost use Rattle.std.specs.Prelude.{◌≡◌, false};
+ghost use Rattle.calvin_order.specs.Configs.{is_woven, merged};
+ghost use Rattle.calvin_script.specs.Scripts.{contents, requests_at};
+ghost use Rattle.calvin_serial.specs.Scouting.{serial_config};
+
+use crate::listed::ListedBatches;
+use calvin_order::EpochRequests;
+use calvin_script::{Kept, Operation, Script};
+use calvin_types::Config;
+
+/// Whether the batches of an epoch of a script are woven. Who asks before going over an epoch's requests has a loop for
+/// batches that aren't, in which the compiler sees that none is.
+#[inline(always)]
+pub(crate) fn is_woven<R>(script: &Script<R>, epoch: usize) -> bool
+    ensures { result ≡ is_woven script.now.woven_from epoch }
+{
+    match script.woven_from {
+        Some(first) => first <= epoch as u64,
+        None => false,
+    }
+}
+
+/// The requests of an epoch of a script whose batches aren't woven.
+#[inline(always)]
+#[tactic(auto, using(crate::proofs::Requests::joined_alike))]
+pub(crate) fn joined_requests<'a, Op: Operation>(
+    listed: &'a ListedBatches<'a, Kept<Op>>,
+    epoch: usize,
+) -> EpochRequests<'a, Kept<Op>, ListedBatches<'a, Kept<Op>>>
+    requires { is_woven listed.now.script.now.woven_from epoch ≡ false }
+    ensures { result ≡ merged (serial_config (contents listed.now.script.now)) (requests_at (contents listed.now.script.now)) epoch }
+{
+    let config = Config {
+        partitions: listed.script.partitions,
+        replicas: 1,
+        delay: 0,
+        woven_from: None,
+    };
+    EpochRequests::new(listed, epoch as u64, &config)
+}
+
+/// The requests of an epoch of a script, whether its batches are woven or not.
+#[inline(always)]
+pub(crate) fn requests_in<'a, Op: Operation>(
+    listed: &'a ListedBatches<'a, Kept<Op>>,
+    epoch: usize,
+) -> EpochRequests<'a, Kept<Op>, ListedBatches<'a, Kept<Op>>>
+    ensures { result ≡ merged (serial_config (contents listed.now.script.now)) (requests_at (contents listed.now.script.now)) epoch }
+{
+    let config = Config {
+        partitions: listed.script.partitions,
+        replicas: 1,
+        delay: 0,
+        woven_from: listed.script.woven_from,
+    };
+    EpochRequests::new(listed, epoch as u64, &config)
+}

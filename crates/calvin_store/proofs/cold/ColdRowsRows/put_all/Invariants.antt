@@ -1,0 +1,10 @@
+use Rattle.std.proofs.Common.{◌≡◌, ◌+◌, ◌≤◌, drop}
+use Rattle.calvin_app.specs.Stores.{put_at}
+use Rattle.calvin_store.proofs.cold.ColdRowsRows.put_all.Given as goal
+
+-- what is left to write makes of the store what all writes make of the store before; each write takes one from the room at most
+abbrev pub invariant-loop-i : goal.invariant-loop-i
+invariant-loop-i g l = record {
+  so_far : put_at l.place (drop l.i l.writes) l.self.store ≡ put_at l.place l.writes l.fn.self.store;
+  room : l.fn.self.room ≤ l.self.room + l.i;
+}
