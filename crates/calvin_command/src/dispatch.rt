@@ -79,7 +79,8 @@ end it stands, or none; the last line is `finished` and the least of them.
 const SIM_HELP: &str = "\
 The script comes on standard input, as `calvin serial --help` shows it. It is run in
 a world of as many partitions as it has: each batch is submitted at its group's node
-of replica 0 and closed, then events are drawn from the number --start, and then
+of replica 0 and closed, then events are drawn from the number --start, with
+--restarts also restarts, points with snapshots of them, and coolings, and then
 packets are delivered and nodes work on, for 64 rounds at most, until each stands at
 the end of the last epoch. The same script, options and program give the same run.
 
@@ -162,7 +163,9 @@ fn restarts_flag<'a>(alloc: Global) -> Arg<'a>
     ensures rule { rule_of result ≡ restarts_flag }
     ensures local { result.global ≡ false }
 {
-    flag(alloc, "restarts").help("Nodes of the replicas above 0 restart now and then")
+    flag(alloc, "restarts").help(
+        "Nodes of the replicas above 0 restart, points are opened, and rows cool, now and then",
+    )
 }
 
 /// The option `--start` of `sim`.

@@ -3,8 +3,8 @@ use crate::event_lists::{Events, deliveries, happens, joined};
 use std::alloc::{AllocError, Global};
 use std::test::Fail;
 
-/// Epoch 0 is empty, and the one request of epoch 1 is done: the node stands at epoch 1 and no longer at 0. Where epoch 0 was
-/// marked in time its rows are there all the same: none.
+/// Epoch 0 is empty, and the one request of epoch 1 is done: the node stands at epoch 1 and no longer at 0. Where an epoch 0
+/// with one row was marked in time, its row is there without that of epoch 1.
 #[test]
 fn snapshot_at_its_point(rt: HostRuntime) -> Result<(), Fail> {
     let list = Events {
@@ -23,14 +23,14 @@ fn snapshot_at_its_point(rt: HostRuntime) -> Result<(), Fail> {
     happens(&rt, rt.alloc(), &list)?;
     let marked = Events {
         pieces: &[
-            r#"["close",0,0],["propose",0,0,0],["deliver",0],["deliver",1],["deliver",2],["deliver",3]"#,
-            r#"["submit",0,0,{"client":7,"number":1,"op":["put",1,5]}],["close",0,0],["propose",0,0,1],["deliver",4],["deliver",5],["deliver",6],["deliver",7]"#,
-            r#"["merge",0,0],["merge",0,0],["lock",0,0],["mark",0,0,0],["begin",0,0,1,0],["finish",0,0,1,0]"#,
-            r#"["snapshot",0,0,0],["snapshot",0,0,0],["restart",0,0]"#,
+            r#"["submit",0,0,{"client":7,"number":1,"op":["put",1,5]}],["close",0,0],["propose",0,0,0],["deliver",0],["deliver",1],["deliver",2],["deliver",3]"#,
+            r#"["submit",0,0,{"client":7,"number":2,"op":["put",2,6]}],["close",0,0],["propose",0,0,1],["deliver",4],["deliver",5],["deliver",6],["deliver",7]"#,
+            r#"["merge",0,0],["merge",0,0],["lock",0,0],["lock",0,0],["begin",0,0,0,0],["finish",0,0,0,0]"#,
+            r#"["mark",0,0,0],["begin",0,0,1,0],["finish",0,0,1,0],["snapshot",0,0,0],["snapshot",0,0,0],["restart",0,0]"#,
         ],
-        count: 22,
-        refused: &[(20, 50)],
-        ending: "node 0.0 stands 0 rows 0\n1.0 7:1 done\nfinished 0\n",
+        count: 26,
+        refused: &[(24, 50)],
+        ending: "node 0.0 stands 0 rows 1\n0.0 7:1 done\n1.0 7:2 done\nfinished 0\n",
         ..list
     };
     happens(&rt, rt.alloc(), &marked)?;

@@ -118,8 +118,13 @@ impl Drawing {
         keys.get(self.draw_index(keys.len()))
     }
 
-    /// Where nodes restart, what they do with their rows beside requests: a point is opened where the node stands, a snapshot
-    /// of the point is taken, or a row cools.
+    /// The epoch of a point: the one at whose end a node stands, or the one after it, whose requests may be under way.
+    fn draw_point(&mut self, front: Front) -> u64 {
+        front.epoch.saturating_add(u64::from(self.draw(2)))
+    }
+
+    /// Where nodes restart, what they do with their rows beside requests: a point is opened, a snapshot of it is taken, or a
+    /// row cools.
     fn draw_act_on_rows<A: App + Drop>(
         &mut self,
         world: &StoreWorld<A>,
@@ -132,7 +137,7 @@ impl Drawing {
             return None;
         }
         match self.draw(16) {
-            0 => Some(Act::Mark(front.epoch)),
+            0 => Some(Act::Mark(self.draw_point(front))),
             1 | 2 => Some(Act::Snapshot(front.marked?)),
             3..=6 => Some(Act::Cool(self.draw_key(world, id)?)),
             _ => None,

@@ -9,8 +9,8 @@ use calvin_order::EpochRequests;
 use calvin_script::{Kept, Operation, Script};
 use calvin_types::Config;
 
-/// Whether the batches of an epoch of a script are woven. Who asks before going over an epoch's requests has a loop for
-/// batches that aren't, in which the compiler sees that none is.
+/// Whether the batches of an epoch of a script are woven. A loop of its own for batches that aren't costs nothing for the weave:
+/// the compiler sees there that none takes turns.
 #[inline(always)]
 pub(crate) fn is_woven<R>(script: &Script<R>, epoch: usize) -> bool
     ensures { result ≡ is_woven script.now.woven_from epoch }

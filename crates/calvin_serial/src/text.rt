@@ -66,8 +66,7 @@ where
     Ok(())
 }
 
-/// Runs one request of a script where it stands, and adds its line. It is put in both loops over the requests of an epoch, as
-/// it was where there was one.
+/// Runs one request of a script where it stands, and adds its line.
 #[inline(always)]
 fn push_kept<A: App>(
     store: &mut Serial<A>,

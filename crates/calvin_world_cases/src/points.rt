@@ -146,6 +146,29 @@ fn mark_then_snapshot(rt: HostRuntime) -> Result<(), Fail> {
     Ok(())
 }
 
+/// Both requests are done: a node without a point stands at epoch 1 alone, whose snapshot it takes once.
+#[test]
+fn snapshot_at_its_point(rt: HostRuntime) -> Result<(), Fail> {
+    let mut world = one_node::<PlainRows<u64>>(rt.alloc())?;
+    happen(&rt, &mut world, &two_epochs(KvRequest::Put(2, 6)), None);
+    let runs = [
+        own(Act::Begin(FIRST)),
+        own(Act::Finish(FIRST)),
+        own(Act::Begin(SECOND)),
+        own(Act::Finish(SECOND)),
+        own(Act::Snapshot(0)),
+        own(Act::Snapshot(1)),
+    ];
+    happen(&rt, &mut world, &runs, Some((4, Fault::NotAtEnd)));
+    happen(
+        &rt,
+        &mut world,
+        &[own(Act::Snapshot(1))],
+        Some((0, Fault::Older)),
+    );
+    Ok(())
+}
+
 /// A keeper without points refuses the mark.
 #[test]
 fn snapshot_without_mark(rt: HostRuntime) -> Result<(), Fail> {
