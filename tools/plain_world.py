@@ -192,6 +192,12 @@ class World:
 
     # ---- the scheduler
 
+    def weaves_next(self, node):
+        """Whether the requests of the node's next epoch come in another order than batch after batch."""
+        batches = [node.held.get((node.merged, group), []) for group in range(self.partitions)]
+        woven = plain_serial.is_woven(self.woven_from, node.merged)
+        return plain_serial.in_order(batches, woven) != plain_serial.in_order(batches, False)
+
     def merge(self, node):
         epoch = node.merged
         need(all((epoch, group) in node.held for group in range(self.partitions)), 34)
