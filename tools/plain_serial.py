@@ -9,9 +9,9 @@ class Kv:
     """Numbers by key."""
 
     @staticmethod
-    def needs(op, row):
+    def needs(txn, row):
         """The keys that are read and those that are written, where `row` gives the row of a key or None."""
-        name, *args = op
+        name, *args = txn["op"]
         if name == "put":
             return [], [(0, args[0])]
         if name == "get":
@@ -25,9 +25,9 @@ class Kv:
         return sorted({(0, args[0])} | ({(0, named)} if named is not None else set())), []
 
     @staticmethod
-    def run(op, row):
+    def run(txn, row):
         """The answer, and the rows that are written."""
-        name, *args = op
+        name, *args = txn["op"]
 
         def number(k):
             return row((0, k)) or 0
@@ -63,8 +63,8 @@ class Stock:
     """Customers, items and orders: rows of tables 1, 2 and 3, each a tuple."""
 
     @staticmethod
-    def needs(op, row):
-        name, *args = op
+    def needs(txn, row):
+        name, *args = txn["op"]
         if name in ("additem", "restock"):
             keys = [(2, args[0])]
         elif name == "order":
@@ -78,8 +78,8 @@ class Stock:
         return keys, [] if name == "balance" else keys
 
     @staticmethod
-    def run(op, row):
-        name, *args = op
+    def run(txn, row):
+        name, *args = txn["op"]
         if name in ("additem", "restock"):
             return Stock.run_item(name, args, row((2, args[0])))
         if name == "open":
@@ -134,7 +134,39 @@ class Stock:
         return f"ordered {total}", {**written, (3, number): (args[0], total, False), (1, args[0]): (customer[0], number)}
 
 
-APPS = {"kv": Kv, "stock": Stock}
+def name_of(txn):
+    return txn["client"], txn["number"]
+
+
+class Once:
+    """Stock, with each request's name once: rows are those of Stock and, in table 4, the replies that are kept."""
+
+    @staticmethod
+    def kept_key(txn):
+        """The key of the kept reply."""
+        client, number = name_of(txn)
+        return 4, client * 2**32 + number
+
+    @staticmethod
+    def needs(txn, row):
+        return tuple(sorted({*keys, Once.kept_key(txn)}) for keys in Stock.needs(txn, row))
+
+    @staticmethod
+    def run(txn, row):
+        key = Once.kept_key(txn)
+        kept = row(key)
+        if kept is not None:
+            return kept, {}
+        answer, written = Stock.run(txn, row)
+        return answer, {**written, key: answer}
+
+
+APPS = {"kv": Kv, "stock": Stock, "once": Once}
+MOST_KEYS = 16
+
+
+class BadScript(Exception):
+    """A script is refused with 91."""
 
 
 def is_woven(woven_from, epoch):
@@ -151,6 +183,50 @@ def in_order(batches, woven):
 MOST_LOOKS = 16
 
 
+def declared_kind(txn):
+    """Which of its declared sets name the key of its kept reply, and how many keys they then have: what is counted of a
+    request of `once` that declares sets."""
+    if not txn["reads"] + txn["writes"]:
+        return "no key declared"
+    kept = list(Once.kept_key(txn))
+    named = {name: kept in map(list, txn[name]) for name in ("reads", "writes")}
+    full = [is_named for name, is_named in named.items() if len(txn[name]) + (not is_named) == MOST_KEYS]
+    if full:
+        return "sixteen keys, the kept one named" if all(full) else "sixteen keys, the kept one added"
+    return "kept key named" if all(named.values()) else "kept key named in one set" if any(named.values()) else "kept key added"
+
+
+# What comes up where each name has its effect once, of names that come again and of declared sets.
+REPEATS = {"told again", "told again for another operation", "changed after its reply", "answered after changed"}
+DECLARED = {
+    "kept key named: answered", "kept key named: changed", "kept key added: answered", "kept key added: changed",
+    "kept key named in one set: answered", "no key declared: changed", "sixteen keys, the kept one named: changed",
+    "sixteen keys, the kept one added: changed", "seventeen keys",
+}  # fmt: skip
+
+
+class Repeats:
+    """Counts what comes up where each name has its effect once."""
+
+    def __init__(self):
+        self.answered, self.changed = {}, set()
+
+    def kinds(self, txn, answer):
+        """What is counted of the next request, whose answer is this one."""
+        name, is_changed = name_of(txn), answer == "changed"
+        if name in self.answered:
+            same = txn["op"] == self.answered[name]
+            yield "changed after its reply" if is_changed else "told again" if same else "told again for another operation"
+        elif name in self.changed and not is_changed:
+            yield "answered after changed"
+        if "reads" in txn:
+            yield f"{declared_kind(txn)}: {'changed' if is_changed else 'answered'}"
+        if is_changed:
+            self.changed.add(name)
+        else:
+            self.answered.setdefault(name, txn["op"])
+
+
 class Run:
     """The serial run of a script, one request after another; where it scouts, with `--scout`."""
 
@@ -159,30 +235,31 @@ class Run:
         self.scouts = scouts
         self.rows = {}
         self.rows_before = {}
+        self.repeats = Repeats()
         self.counts = collections.Counter()
 
     def begin_epoch(self):
         """Keeps the rows as they stand before the epoch that begins."""
         self.rows_before = dict(self.rows)
 
-    def first_sets(self, op):
+    def first_sets(self, txn):
         """The sets where no row is known."""
-        return self.app.needs(op, lambda key: None)
+        return self.app.needs(txn, lambda key: None)
 
-    def sets(self, op):
+    def sets(self, txn):
         """The sets of the rows as they are now."""
-        return self.app.needs(op, self.rows.get)
+        return self.app.needs(txn, self.rows.get)
 
-    def scouted_sets(self, op):
+    def scouted_sets(self, txn):
         """The sets that are found over the rows before the epoch."""
-        sets = self.first_sets(op)
+        sets = self.first_sets(txn)
         for _ in range(MOST_LOOKS):
             seen = {key: self.rows_before[key] for key in sets[0] if key in self.rows_before}
-            more = self.app.needs(op, seen.get)
+            more = self.app.needs(txn, seen.get)
             if more == sets:
                 return sets
             sets = more
-        raise ValueError(f"72 Unsettled: {op}")
+        raise ValueError(f"72 Unsettled: {txn}")
 
     def answer(self, txn):
         reads, writes = self.declared(txn)
@@ -190,21 +267,25 @@ class Run:
         def seen(key):
             return self.rows.get(key) if key in reads else None
 
-        if self.app.needs(txn["op"], seen) != (reads, writes):
+        if self.app.needs(txn, seen) != (reads, writes):
             return "changed"
-        answer, written = self.app.run(txn["op"], seen)
+        answer, written = self.app.run(txn, seen)
         self.rows.update(written)
         return answer
 
     def declared(self, txn):
         """The sets that a request has."""
-        if "reads" in txn:
-            return tuple(sorted(tuple(key) for key in txn[name]) for name in ("reads", "writes"))
-        return self.scouted_sets(txn["op"]) if self.scouts else self.first_sets(txn["op"])
+        if "reads" not in txn:
+            return self.scouted_sets(txn) if self.scouts else self.first_sets(txn)
+        added = {Once.kept_key(txn)} if self.app is Once else set()
+        sets = tuple(sorted(added.union(map(tuple, txn[name]))) for name in ("reads", "writes"))
+        if any(len(keys) > MOST_KEYS for keys in sets):
+            raise BadScript(f"a set has more than {MOST_KEYS} keys: {txn}")
+        return sets
 
     def is_found(self, txn):
         """Whether its sets are others than the first ones because they were scouted."""
-        return "reads" not in txn and self.declared(txn) != self.first_sets(txn["op"])
+        return "reads" not in txn and self.declared(txn) != self.first_sets(txn)
 
     def epoch(self, number, batches, woven):
         """The lines of an epoch."""
@@ -214,6 +295,8 @@ class Run:
             answer = self.answer(txn)
             word = answer.split(" ", maxsplit=1)[0]
             self.counts[f"scouted {word}" if self.is_found(txn) else word] += 1
+            if self.app is Once:
+                self.counts.update(self.repeats.kinds(txn, answer))
             yield f"{number}.{n} {txn['client']}:{txn['number']} {answer}\n"
 
 
@@ -224,3 +307,12 @@ def text_of(script, scouts=False):
     lines = [line for number, batches in epochs for line in run.epoch(number, batches, is_woven(woven_from, number))]
     last = len(script["epochs"]) - 1
     return "".join(lines) + (f"finished {last}\n" if last >= 0 else "finished none\n"), run.counts
+
+
+def ending_of(script, scouts=False):
+    """The status, what is on standard output and on standard error, and what came up."""
+    try:
+        text, counts = text_of(script, scouts)
+    except BadScript:
+        return (2, "", "calvin: 91 BadScript\n"), collections.Counter(["seventeen keys"])
+    return (0, text, ""), counts

@@ -265,8 +265,8 @@ class World:
         for rows in node.came[place].values():
             view |= rows
         answer = "changed"
-        if self.app.needs(txn["op"], view.get) == (txn["reads"], txn["writes"]):
-            answer, written = self.app.run(txn["op"], view.get)
+        if self.app.needs(txn, view.get) == (txn["reads"], txn["writes"]):
+            answer, written = self.app.run(txn, view.get)
             self.put(node, place, {key: row for key, row in written.items() if self.local([key], node.p)})
         node.state[place] = "done"
         self.send(node, None, "reply", place, txn, answer)
@@ -342,6 +342,15 @@ def opened(script):
     return World(script["app"], script["partitions"], script["replicas"], script.get("delay", 0), script.get("woven_from"))
 
 
+def replies(world):
+    """The requests that were answered, with their places and answers, in their order."""
+    found = {}
+    for _, to, says in world.packets:
+        if to is None:
+            found.setdefault(says[1], says[2:])
+    return sorted(found.items(), key=lambda it: it[0])
+
+
 def ending(world):
     """The lines of the nodes, then those of the answers and the last line."""
     stands = {at: world.stands_at(node) for at, node in world.nodes.items()}
@@ -349,11 +358,7 @@ def ending(world):
         f"node {r}.{p} stands {'none' if stands[r, p] is None else stands[r, p]} rows {len(node.rows)}"
         for (r, p), node in world.nodes.items()
     ]
-    replies = {}
-    for _, to, says in world.packets:
-        if to is None:
-            replies.setdefault(says[1], says[2:])
-    answers = [f"{e}.{n} {txn['client']}:{txn['number']} {answer}" for (e, n), (txn, answer) in sorted(replies.items())]
+    answers = [f"{e}.{n} {txn['client']}:{txn['number']} {answer}" for (e, n), (txn, answer) in replies(world)]
     last = None if None in stands.values() else min(stands.values())
     return nodes, [*answers, f"finished {'none' if last is None else last}"]
 

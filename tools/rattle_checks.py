@@ -1,5 +1,7 @@
 """Checks of copies of the repository's crates, and what they say of each function."""
 
+import contextlib
+import heapq
 import os
 import re
 import shutil
@@ -18,13 +20,44 @@ UNFIT = re.compile(r"has no field|is not in scope|has no `|is no name")
 CITES_REFUSED = re.compile(r"not admitted")
 
 
-class Kit:
-    """What runs the prover, so many checks at a time."""
+class Spent(Exception):
+    """The processor time is spent that checks may take."""
 
-    def __init__(self, lanes, room):
+
+class Lanes:
+    """So many checks at a time; of those that wait for a lane, one of the least rank is next."""
+
+    def __init__(self, number):
+        self.free, self.asked, self.waiting = number, 0, []
+        self.turn = threading.Condition()
+
+    @contextlib.contextmanager
+    def lane(self, rank):
+        with self.turn:
+            self.asked += 1
+            own = (rank, self.asked)
+            heapq.heappush(self.waiting, own)
+            self.turn.wait_for(lambda: self.free > 0 and self.waiting[0] == own)
+            heapq.heappop(self.waiting)
+            self.free -= 1
+            self.turn.notify_all()
+        try:
+            yield
+        finally:
+            with self.turn:
+                self.free += 1
+                self.turn.notify_all()
+
+
+class Kit:
+    """What runs the prover, so many checks at a time, and none that begins once the processor seconds are spent, where
+    there is a most of them."""
+
+    def __init__(self, lanes, room, most=float("inf")):
         done = subprocess.run(["rt", "doc"], stdout=subprocess.PIPE, text=True, check=True)
         self.folder = Path(done.stdout.strip()).parent
-        self.lanes = threading.Semaphore(lanes)
+        self.lanes = Lanes(lanes)
+        self.most, self.used, self.running = most, 0, set()
         self.room = Path(room)
         self.uses = {}
         for line in (ROOT / "crates.txt").read_text(encoding="utf-8").splitlines():
@@ -54,15 +87,37 @@ class Kit:
         words += ["--logic-built", f"{self.folder}/logic_built", "--links", f"{name}=", "--jobs", "1"]
         return words
 
-    def run(self, words, where):
-        """Runs a command, and returns its status, what it said, and its processor seconds."""
-        with self.lanes, tempfile.TemporaryFile("w+", errors="replace") as said:
+    def run(self, words, where, rank=0, wanted=0):
+        """Runs a command, and returns its status, what it said, and its processor seconds. It isn't begun, which raises
+        Spent, where no more of these than are wanted are left."""
+        with self.lanes.lane(rank), tempfile.TemporaryFile("w+", errors="replace") as said:
+            if self.left() <= wanted:
+                raise Spent
             how = {"cwd": where, "stdin": subprocess.DEVNULL, "stdout": said, "stderr": subprocess.STDOUT}
             started = subprocess.Popen(words, **how)
+            self.running.add(started.pid)
             _, status, used = os.wait4(started.pid, 0)
             started.returncode = os.waitstatus_to_exitcode(status)
+            seconds = used.ru_utime + used.ru_stime
+            with self.lanes.turn:
+                self.running.discard(started.pid)
+                self.used += seconds
             said.seek(0)
-            return started.returncode, said.read(), used.ru_utime + used.ru_stime
+            return started.returncode, said.read(), seconds
+
+    def left(self):
+        """The processor seconds that are left, with what the checks have taken that aren't at their end."""
+        with self.lanes.turn:
+            return self.most - self.used - sum(map(seconds_of, self.running))
+
+
+def seconds_of(process):
+    """The processor seconds of a process, and of those that it waited for."""
+    try:
+        said = Path(f"/proc/{process}/stat").read_text(encoding="utf-8", errors="replace")
+    except OSError:
+        return 0
+    return sum(map(int, said.rpartition(")")[2].split()[11:15])) / os.sysconf("SC_CLK_TCK")
 
 
 def newest(folder):
@@ -126,38 +181,63 @@ class Said:
         of = re.compile(r"(?:\./)?(?:src|specs)/[^:]+:\d+:\d+: error: (.*)")
         return next((it for it in self.lines if (found := of.match(it)) and UNFIT.search(found[1])), None)
 
+    def goals_told(self):
+        """The goals, of whatever item, of which it is told at their place that they aren't proved."""
+        told = re.compile(r"note: (src/\S+: it is not proved that .*?)(?:\(`([^`]*)`\))?$")
+        return [found[2] or found[1][:120] for found in map(told.match, self.lines) if found]
+
     def errors(self, name):
         """The errors in the function's own proof files, each as its file, the declaration and the text. None is of a
         proof that only rests on a refused one."""
-        own, cycle = "/".join(name), "/".join([*name[:-1], f"+{name[-1]}"])
-        at = re.compile(rf"(?:\./)?proofs/(?:{re.escape(own)}|{re.escape(cycle)})/([^:]*):\d+:\d+: error: (?:`([^`]*)`: )?(.*)")
+        folders = "|".join(map(re.escape, folders_of(name)))
+        at = re.compile(rf"(?:\./)?((?:{folders})[^:]*):\d+:\d+: error: (?:`([^`]*)`: )?(.*)")
         found = [it.groups(default="") for it in map(at.match, self.lines) if it]
         return [it for it in found if not CITES_REFUSED.search(it[2])]
 
-    def verdict(self, name):
-        """Of a function: 'refused' and at which goal, 'no evidence' and why, 'passes', or 'waits'."""
+    def verdict(self, name, dropped=()):
+        """Of a function, where the proofs of some goals were dropped: 'open' and which goal where the search leaves another
+        one open, 'written' and which where only the proof of a goal that was written by hand doesn't hold, 'no evidence'
+        and why, 'passes', or 'waits'."""
         status = self.of.get(name, "could not tell")
         if re.match(r"proved\b", status):
             return "passes", ""
         errors = [] if status.startswith("could not tell") else self.errors(name)
         unfit = [it for it in errors if UNFIT.search(it[2])]
         left = re.findall(r"`([^`]*)`", status.partition("`search` did not prove ")[2])
-        goals = goals_left(left, unfit, [it for it in errors if it not in unfit])
-        if goals:
-            return "refused", f"{'::'.join(name)}: {goals[0]}"
+        left, written = goals_left(left, unfit, [it for it in errors if it not in unfit])
+        path = "::".join(name)
+        if found := [it for it in left if it not in dropped]:
+            return "open", f"{path}: {found[0]}"
+        if written or left:
+            return "written", f"{path}: {[*written, *left][0]}"
         if unfit:
-            return "no evidence", f"{'::'.join(name)}: {unfit[0][2][:140]}"
+            return "no evidence", f"{path}: {unfit[0][2][:140]}"
         return "waits", ""
+
+    def answers(self, name):
+        """The written proofs of a function's goals that don't hold, as their names by file."""
+        found = {}
+        for file, declaration, text in self.errors(name):
+            if file.endswith("/Answers.antt") and declaration and not UNFIT.search(text):
+                found.setdefault(file, set()).add(declaration)
+        return found
+
+
+def folders_of(name):
+    """The folders of a function's proofs: its own, and the one that it has in a ring of functions."""
+    return f"proofs/{'/'.join(name)}/", f"proofs/{'/'.join([*name[:-1], f'+{name[-1]}'])}/"
 
 
 def goals_left(searched, unfit, errors):
-    """The goals that are left open by more than a proof's text that doesn't fit."""
-    if any(file.startswith("Invariants") for file, _, _ in unfit):
-        return []
+    """The goals that are left open by more than a proof's text that doesn't fit: those that were searched for, and those
+    whose written proofs don't hold."""
+    if any(file.rpartition("/")[2].startswith("Invariants") for file, _, _ in unfit):
+        return [], []
     # Where an answer's goal isn't there any more, it may be one that is left to the search now, under another name.
     gone = {kind_of(it.removeprefix("goal.")) for _, it, _ in unfit if it.startswith("goal.")}
     broken = {declaration for _, declaration, _ in unfit}
-    return [it for it in searched if kind_of(it) not in gone] + [it or file for file, it, _ in errors if it not in broken]
+    written = [it or file.rpartition("/")[2] for file, it, _ in errors if it not in broken]
+    return [it for it in searched if kind_of(it) not in gone], written
 
 
 def kind_of(goal):

@@ -8,8 +8,8 @@ use Rattle.calvin_app.specs.Meaning.{Meaning}
 use Rattle.calvin_order.specs.Configs.{Config}
 use Rattle.calvin_sched.specs.Standing.{greatest_below}
 use Rattle.calvin_sched.proofs.Standings.{stands_left}
-use Rattle.calvin_acts.specs.NodeStates.{NodeState}
-use Rattle.calvin_acts.specs.Running.{settled}
+use Rattle.calvin_node_acts.specs.NodeStates.{NodeState}
+use Rattle.calvin_node_acts.specs.Running.{settled}
 use Rattle.calvin_text.specs.Texts.{line, finished_at}
 use Rattle.calvin_world.specs.declared.event.Event.{Event}
 use Rattle.calvin_world.specs.declared.event.Outcome.{Outcome}

@@ -19,19 +19,19 @@ use Rattle.calvin_edge.specs.declared.reading.TheConstants.{MOST_BYTES}
 use Rattle.calvin_app.specs.Meaning.{Meaning}
 use Rattle.calvin_app.specs.Kv.{kv}
 use Rattle.calvin_stock.specs.Stock.{stock}
-use Rattle.calvin_world.specs.RunningWorlds.{store_config}
 use Rattle.calvin_world.specs.declared.event.Outcome.{Outcome}
 use Rattle.calvin_world.specs.Worlds.{WorldState, opening}
 use Rattle.calvin_world.specs.Through.{through}
 use Rattle.calvin_script.specs.declared.reading.AppName.{AppName}
-use Rattle.calvin_script.specs.declared.reading.AppName.TheVariants.{Kv, Stock}
+use Rattle.calvin_script.specs.declared.reading.AppName.TheVariants.{Kv, Stock, Once}
 use Rattle.calvin_script.specs.Documents.{Json, app_of}
 use Rattle.calvin_script.specs.Grammar.{Grammar}
 use Rattle.calvin_script.specs.Reading.{and_then, json}
 use Rattle.calvin_script.specs.KvOperations.{kv_grammar}
 use Rattle.calvin_script.specs.StockOperations.{stock_grammar}
+use Rattle.calvin_script.specs.OnceOperations.{once_stock, once_grammar}
 use Rattle.calvin_text.specs.Texts.{kv_text, stock_text, finished_at, line}
-use Rattle.calvin_events.specs.EventScripts.{WorldContents, world_script_in}
+use Rattle.calvin_script_events.specs.EventScripts.{WorldContents, world_script_in}
 use Rattle.calvin_report.specs.declared.replies.Epochs.TheVariants.{All}
 use Rattle.calvin_report.specs.Replies.{replied, of_epochs, reply_lines}
 use Rattle.calvin_report.specs.Reports.{outcome_lines, node_lines, least_standing}
@@ -45,7 +45,7 @@ are_expected (Some texts) lines = are_lines texts lines
 
 module _ {Args Row Reply : Type 0} where
   abbrev pub first_world : WorldContents Args → WorldState Args Row Reply
-  first_world script = opening (store_config script.partitions script.replicas script.delay script.woven_from)
+  first_world script = opening script.config
 
   abbrev pub ended : Meaning Args Row Reply → WorldContents Args → List Outcome × WorldState Args Row Reply
   ended m script = through m (first_world script) script.events
@@ -77,6 +77,7 @@ abbrev pub report_by : Json → Option AppName → Result (List ℕ × Bool) Fau
 report_by d None = Err BadScript
 report_by d (Some Kv) = report_for kv_text kv kv_grammar d
 report_by d (Some Stock) = report_for stock_text stock stock_grammar d
+report_by d (Some Once) = report_for stock_text once_stock once_grammar d
 
 abbrev pub report_in : Json → Result (List ℕ × Bool) Fault
 report_in d = report_by d (app_of d)

@@ -6,21 +6,21 @@ ghost use Rattle.calvin_edge.specs.Answering.{HasText, HasBeginning, Refuses};
 ghost use Rattle.calvin_edge.specs.Devices.{LeavesAsTold};
 ghost use Rattle.calvin_script.specs.Documents.{data_of};
 ghost use Rattle.calvin_script.specs.Reading.{and_then, json, Reads};
-ghost use Rattle.calvin_events.specs.EventScripts.{world_contents};
+ghost use Rattle.calvin_script_events.specs.EventScripts.{world_contents};
 ghost use Rattle.calvin_check.specs.Checks.{report, told_behind, answer_lines, are_expected, is_as_expected, report_for, report_in, check_text, IsExpected, IsCheckFault};
 
 use crate::expecting::are_lines;
 use crate::running::run_events;
 use calvin_app::{App, Kv};
 use calvin_edge::{Sink, Source, read_all, write_all};
-use calvin_events::{EventScript, event_script_of};
 use calvin_lock::Locks;
 use calvin_report::{Epochs, finished, push_nodes, push_replies, replies_of};
 use calvin_script::{AppName, Document, Kept, Operation};
-use calvin_stock::Stock;
+use calvin_script_events::{EventScript, event_script_of};
+use calvin_stock::{Stock, stock_once};
 use calvin_store::Rows;
 use calvin_text::{Printed, push_last};
-use calvin_types::{Config, Fault};
+use calvin_types::Fault;
 use calvin_world::{StoreWorld, World};
 use std::alloc::Global;
 
@@ -70,13 +70,7 @@ where
         × (r.is_expected ≡ is_as_expected A.Reply.printed A.meaning (world_contents script.now))) }
     ensures only { IsOkUnless result Fault.OutOfMemory }
 {
-    let config = Config {
-        partitions: script.partitions,
-        replicas: script.replicas,
-        delay: script.delay,
-        woven_from: script.woven_from,
-    };
-    let mut world = StoreWorld::<A>::new(alloc, &config, app)?;
+    let mut world = StoreWorld::<A>::new(alloc, &script.config, app)?;
     let mut text = Vec::new(alloc);
     run_events(&mut world, &script.events, &mut text)?;
     let is_expected = tell_world(alloc, &world, &script.expect, &mut text)?;
@@ -103,6 +97,7 @@ fn report_in(alloc: Global, bytes: Vec<u8>) -> Result<Report, Fault>
     match document.app() {
         Some(AppName::Kv) => report_for(alloc, Kv, document),
         Some(AppName::Stock) => report_for(alloc, Stock, document),
+        Some(AppName::Once) => report_for(alloc, stock_once(), document),
         None => Err(Fault::BadScript),
     }
 }

@@ -3,14 +3,14 @@ ghost use Rattle.std.specs.Prelude.{◌≡◌, ◌++◌, List, map, OnOk, IsOkUn
 ghost use Rattle.calvin_world.specs.declared.event.Outcome.{Outcome};
 ghost use Rattle.calvin_world.specs.SettledWorlds.{SettledLeads};
 ghost use Rattle.calvin_world.specs.Through.{WithoutWant};
-ghost use Rattle.calvin_events.specs.EventForms.{event_of};
+ghost use Rattle.calvin_script_events.specs.EventForms.{event_of};
 ghost use Rattle.calvin_report.specs.Reports.{outcome_lines};
 
 use calvin_app::App;
-use calvin_events::ListedEvent;
 use calvin_lock::Locks;
 use calvin_report::push_outcome;
 use calvin_script::{Kept, Operation};
+use calvin_script_events::ListedEvent;
 use calvin_store::Rows;
 use calvin_types::Fault;
 use calvin_world::{Outcome, World, outcome_of};

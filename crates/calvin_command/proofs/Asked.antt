@@ -4,7 +4,7 @@ use Rattle.clap.specs.Walk.{Row, Text}
 use Rattle.clap.specs.Words.{subcommand_of, subcommand_rows_of, subcommand_name_of}
 use Rattle.clap.specs.declared.parser.matches.ArgMatches.{ArgMatches}
 use Rattle.calvin_types.specs.Limits.{IsInRange}
-use Rattle.calvin_schedule.specs.declared.schedule.Schedule.{Schedule}
+use Rattle.calvin_sim_events.specs.declared.schedule.Schedule.{Schedule}
 use Rattle.calvin_command.specs.declared.dispatch.Wish.{Wish}
 use Rattle.calvin_command.specs.declared.dispatch.Wish.TheVariants.{Sim}
 use Rattle.calvin_command.specs.Line.{calvin, rows_found, restarts_of, IsScheduleOf, IsAsked, IsSim, IsSimLine}

@@ -23,7 +23,7 @@ use Rattle.clap.specs.declared.parser.matches.ValueSource.TheVariants.{DefaultVa
 use Rattle.clap.proofs.WalkLemmas.{both}
 use Rattle.clap.proofs.ValueTestLemmas.{Accepts-accepts, accepts-Accepts}
 use Rattle.calvin_types.specs.declared.limits.TheConstants.{MOST_REPLICAS}
-use Rattle.calvin_schedule.specs.declared.schedule.TheConstants.{MOST_STEPS}
+use Rattle.calvin_sim_events.specs.declared.schedule.TheConstants.{MOST_STEPS}
 use Rattle.calvin_command.specs.Line.{calvin, flag, number_option, number_in, number_of, rows_found, IsTaken, Names, start_option, steps_option, replicas_option}
 use Rattle.calvin_command.proofs.Rows.{Each, IsUsedWell, HasGoodDefault, first_empty, second_empty, not_empty, level_good}
 

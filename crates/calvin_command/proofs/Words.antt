@@ -12,8 +12,8 @@ use Rattle.std.specs.Box.{box_value}
 use Rattle.clap.proofs.OnLiterals.{clap_on_literals}
 use Rattle.calvin_serial.specs.declared.undeclared.UndeclaredSets.{UndeclaredSets}
 use Rattle.calvin_serial.specs.declared.undeclared.UndeclaredSets.TheVariants.{First, Scouted}
-use Rattle.calvin_schedule.specs.declared.schedule.Schedule.{Schedule}
-use Rattle.calvin_schedule.specs.declared.schedule.Restarts.TheVariants.{Never}
+use Rattle.calvin_sim_events.specs.declared.schedule.Schedule.{Schedule}
+use Rattle.calvin_sim_events.specs.declared.schedule.Restarts.TheVariants.{Never}
 use Rattle.calvin_command.specs.Line.{calvin, IsSerialLine, IsHelpLine, IsBadLine, IsPlainSerialLine, IsPlainCheckLine, IsPlainSimLine, IsScoutLine, IsCheckLine, IsSimLine, IsAsked, IsUsual, has_flag, number_of, restarts_of, rows_found, sets_of, sets_asked, Names}
 
 -- the words are for `serial`, and ask for these sets

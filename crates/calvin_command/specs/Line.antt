@@ -42,10 +42,10 @@ use Rattle.clap.specs.declared.error.kind.ErrorKind.TheVariants.{DisplayHelp}
 use Rattle.calvin_types.specs.declared.limits.TheConstants.{MOST_REPLICAS}
 use Rattle.calvin_serial.specs.declared.undeclared.UndeclaredSets.{UndeclaredSets}
 use Rattle.calvin_serial.specs.declared.undeclared.UndeclaredSets.TheVariants.{First, Scouted}
-use Rattle.calvin_schedule.specs.declared.schedule.TheConstants.{MOST_STEPS}
-use Rattle.calvin_schedule.specs.declared.schedule.Schedule.{Schedule}
-use Rattle.calvin_schedule.specs.declared.schedule.Restarts.{Restarts}
-use Rattle.calvin_schedule.specs.declared.schedule.Restarts.TheVariants.{Never, AboveReplicaZero}
+use Rattle.calvin_sim_events.specs.declared.schedule.TheConstants.{MOST_STEPS}
+use Rattle.calvin_sim_events.specs.declared.schedule.Schedule.{Schedule}
+use Rattle.calvin_sim_events.specs.declared.schedule.Restarts.{Restarts}
+use Rattle.calvin_sim_events.specs.declared.schedule.Restarts.TheVariants.{Never, AboveReplicaZero}
 use Rattle.calvin_command.specs.declared.dispatch.Wish.{Wish}
 use Rattle.calvin_command.specs.declared.dispatch.Wish.TheVariants.{Serial, Check, Sim, Help}
 use Rattle.calvin_command.specs.declared.dispatch.Refusal.{Refusal}

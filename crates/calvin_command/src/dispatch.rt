@@ -6,7 +6,7 @@ ghost use Rattle.clap.specs.Words.{app_of, rule_of, found_of, rows_of, subcomman
 ghost use Rattle.calvin_edge.specs.Complaints.{complaint};
 ghost use Rattle.calvin_serial.specs.Engine.{serial_text};
 ghost use Rattle.calvin_check.specs.Checks.{check_text, IsExpected};
-ghost use Rattle.calvin_schedule.specs.declared.schedule.Schedule.{Schedule};
+ghost use Rattle.calvin_sim_events.specs.declared.schedule.Schedule.{Schedule};
 ghost use Rattle.calvin_command.specs.Ends.{Tells, LeavesDevices, RunsEngine, RunsSim, Expects};
 ghost use Rattle.calvin_command.specs.Line.{flag, number_option, scout_flag, restarts_flag, start_option, steps_option, replicas_option, serial_app, check_app, sim_app, calvin, IsTaken, IsSerialLine, IsCheckLine, IsSimLine, IsHelpLine, IsBadLine, HasHelpWord, IsPlainSerialLine, IsPlainCheckLine, IsPlainSimLine, IsScoutLine, has_flag, rows_found, sets_of, sets_asked, number_of, IsScheduleOf, IsAsked, IsUsual, IsOf, IsRun, IsSerial, IsCheck, IsSim, IsHelp, IsRefused};
 ghost use Rattle.calvin_command.specs.Statuses.{IsStatus};
@@ -15,9 +15,9 @@ ghost use Rattle.calvin_command.specs.declared.dispatch.Wish.TheVariants.{Serial
 use crate::ending::{end_with, refuse_line};
 use calvin_check::check;
 use calvin_edge::{Sink, Source, write_all};
-use calvin_schedule::{MOST_STEPS, Restarts, Schedule};
 use calvin_serial::{UndeclaredSets, serial};
 use calvin_sim::sim;
+use calvin_sim_events::{MOST_STEPS, Restarts, Schedule};
 use calvin_types::{Fault, MOST_REPLICAS};
 use clap::builder::ValueParser;
 use clap::error::ErrorKind;
@@ -39,9 +39,10 @@ come first, then the second ones, and so on, in place of whole batches.
        and \"reads\":[KEY, ..],\"writes\":[KEY, ..], both or neither
   KEY  [table,id]
   OP   of kv: [\"put\",k,v], [\"get\",[k, ..]], [\"add\",k,d], [\"move\",a,b,n],
-       [\"follow\",k]; of stock: [\"additem\",i,s,c], [\"restock\",i,s],
-       [\"open\",u], [\"payin\",u,c], [\"order\",u,o,[[i,q], ..]], [\"settle\",u],
-       [\"balance\",u]
+       [\"follow\",k]; of stock, and of once, which is stock with each
+       request's client and number answered once: [\"additem\",i,s,c],
+       [\"restock\",i,s], [\"open\",u], [\"payin\",u,c],
+       [\"order\",u,o,[[i,q], ..]], [\"settle\",u], [\"balance\",u]
 
 Each request is answered by a line `epoch.n client:number answer`, in the merged
 order of all groups; the last line is `finished` and the last epoch, or none.

@@ -14,6 +14,8 @@ mod limits;
 #[cfg(test)]
 mod lines;
 #[cfg(test)]
+mod once;
+#[cfg(test)]
 mod points;
 #[cfg(test)]
 mod sim;

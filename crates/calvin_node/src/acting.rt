@@ -1,14 +1,14 @@
 //! A node's own events, by their names.
 ghost use Rattle.std.specs.Prelude.{true};
-ghost use Rattle.calvin_acts.specs.Acting as acting;
-ghost use Rattle.calvin_acts.specs.Growing.{act_grows};
-ghost use Rattle.calvin_acts.specs.Running.{NodeDid};
+ghost use Rattle.calvin_node_acts.specs.Acting as acting;
+ghost use Rattle.calvin_node_acts.specs.Growing.{act_grows};
+ghost use Rattle.calvin_node_acts.specs.Running.{NodeDid};
 
 use crate::node::Node;
-use calvin_acts::Act;
 use calvin_app::{Answer, App};
 use calvin_lock::Locks;
-use calvin_packets::{Address, Content, Outbox, Packet};
+use calvin_node_acts::Act;
+use calvin_node_packets::{Address, Content, Outbox, Packet};
 use calvin_store::Rows;
 use calvin_types::{Fault, Place};
 
@@ -29,16 +29,16 @@ impl<A: App, L: Locks + Drop, S: Rows<A::Row> + Drop> Node<A, L, S> {
             Act::Snapshot(epoch) => self.snapshot(*epoch),
             Act::Mark(epoch) => self.mark(*epoch),
             Act::Begin(place) => self.begin(*place, outbox),
-            Act::Finish(place) => self.run(*place, app, outbox),
+            Act::Finish(place) => self.finish(*place, app, outbox),
             Act::AskForReads(place, replica) => self.ask_reads(*place, *replica, outbox),
             Act::AskForBatch(slot, of) => self.ask_batch(*slot, *of, outbox),
         }
     }
 
     /// The request at a place is run, what it writes here is put into the rows, and its client is answered: `job`, the
-    /// application's run, and `finish` in one. Refused with `NotReady` where the request has not begun or is done, with
+    /// application's run, and `take_computed` in one. Refused with `NotReady` where the request has not begun or is done, with
     /// `ReadsMissing` where rows of another partition are still to come, else with `OutOfMemory` where a growth was refused.
-    pub fn run(&mut self, place: Place, app: &A, outbox: &mut Outbox<A>) -> Result<(), Fault>
+    pub fn finish(&mut self, place: Place, app: &A, outbox: &mut Outbox<A>) -> Result<(), Fault>
         ensures did { NodeDid true result (acting.finish A.meaning self.old.config place self.old.state) self.old self.new outbox.old.packets outbox.new.packets }
     {
         self.scheduler.due_is_undone();

@@ -2,14 +2,14 @@
 ghost use Rattle.std.specs.Prelude.{◌≡◌, ◌==◌, ◌&&◌, not, nat_lt, true};
 ghost use Rattle.calvin_sched.specs.Keeping.{awaits_at};
 ghost use Rattle.calvin_sched.specs.Scheduling.{turn_at};
-ghost use Rattle.calvin_acts.specs.Acting as acting;
-ghost use Rattle.calvin_acts.specs.NodeStates.{site_of};
-ghost use Rattle.calvin_acts.specs.Running.{NodeDid};
+ghost use Rattle.calvin_node_acts.specs.Acting as acting;
+ghost use Rattle.calvin_node_acts.specs.NodeStates.{site_of};
+ghost use Rattle.calvin_node_acts.specs.Running.{NodeDid};
 
 use crate::node::Node;
 use calvin_app::App;
 use calvin_lock::Locks;
-use calvin_packets::{Content, Outbox};
+use calvin_node_packets::{Content, Outbox};
 use calvin_store::Rows;
 use calvin_types::{Fault, Few, NodeId, Place, Slot};
 

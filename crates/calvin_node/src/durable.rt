@@ -1,18 +1,18 @@
 //! What outlives a restart of a node.
 ghost use Rattle.std.specs.Prelude.{◌≡◌, ◌⊎◌, [], Ok, Err, true, false, IfOk, IfErr};
 ghost use Rattle.calvin_order.specs.Configs.{config_of};
-ghost use Rattle.calvin_acts.specs.Acting as acting;
-ghost use Rattle.calvin_acts.specs.Durables as durables;
-ghost use Rattle.calvin_acts.specs.Durables.{durable_of, is_order_changed};
-ghost use Rattle.calvin_acts.specs.Growing.{act_grows, has_snapshot};
-ghost use Rattle.calvin_acts.specs.Running.{NodeDid};
-ghost use Rattle.calvin_acts.specs.declared.act.Act.TheVariants as act;
+ghost use Rattle.calvin_node_acts.specs.Acting as acting;
+ghost use Rattle.calvin_node_acts.specs.Durables as durables;
+ghost use Rattle.calvin_node_acts.specs.Durables.{durable_of, is_order_changed};
+ghost use Rattle.calvin_node_acts.specs.Growing.{act_grows, has_snapshot};
+ghost use Rattle.calvin_node_acts.specs.Running.{NodeDid};
+ghost use Rattle.calvin_node_acts.specs.declared.act.Act.TheVariants as act;
 
 use crate::node::Node;
-use calvin_acts::{first_epoch, is_order_changed, scheduler_from};
 use calvin_app::App;
 use calvin_lock::Locks;
-use calvin_sequencing::SequencingLayer;
+use calvin_node_acts::{first_epoch, is_order_changed, scheduler_from};
+use calvin_node_sequencing::SequencingLayer;
 use calvin_store::{Rows, Snapshot};
 use calvin_synod::SynodRecord;
 use calvin_types::{Config, Fault, NodeId};
@@ -33,8 +33,8 @@ pub struct Durable<A: App> {
 impl<A: App> Model for Durable<A> {
     ghost use Rattle.std.specs.Coded.{codes};
     ghost use Rattle.std.specs.FinMap.{code};
-    ghost use Rattle.calvin_acts.specs.Durables as durables;
-    ghost use Rattle.calvin_acts.specs.Running.{kept_epochs, kept_rows};
+    ghost use Rattle.calvin_node_acts.specs.Durables as durables;
+    ghost use Rattle.calvin_node_acts.specs.Running.{kept_epochs, kept_rows};
 
     ghost Value = { durables.Durable A.Args A.Row };
 

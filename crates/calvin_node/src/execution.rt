@@ -3,17 +3,17 @@ ghost use Rattle.std.specs.Prelude.{◌≡◌, []};
 ghost use Rattle.calvin_sched.specs.Keeping.{IsFirstReadyHere};
 ghost use Rattle.calvin_sched.specs.Standing.{stands_at};
 ghost use Rattle.calvin_sched.specs.Steps as steps;
-ghost use Rattle.calvin_acts.specs.Acting as acting;
-ghost use Rattle.calvin_acts.specs.Growing.{act_grows};
-ghost use Rattle.calvin_acts.specs.NodeStates.{site_of};
-ghost use Rattle.calvin_acts.specs.Running.{NodeDid, NodeFinished};
-ghost use Rattle.calvin_acts.specs.declared.act.Act.TheVariants as act;
+ghost use Rattle.calvin_node_acts.specs.Acting as acting;
+ghost use Rattle.calvin_node_acts.specs.Growing.{act_grows};
+ghost use Rattle.calvin_node_acts.specs.NodeStates.{site_of};
+ghost use Rattle.calvin_node_acts.specs.Running.{NodeDid, NodeFinished};
+ghost use Rattle.calvin_node_acts.specs.declared.act.Act.TheVariants as act;
 
 use crate::node::Node;
-use calvin_acts::post_served;
 use calvin_app::{App, Computed, Job};
 use calvin_lock::Locks;
-use calvin_packets::{Address, Content, Outbox, Packet};
+use calvin_node_acts::post_served;
+use calvin_node_packets::{Address, Content, Outbox, Packet};
 use calvin_store::Rows;
 use calvin_types::{Fault, MOST_KEYS, Place};
 
@@ -64,7 +64,11 @@ impl<A: App, L: Locks + Drop, S: Rows<A::Row> + Drop> Node<A, L, S> {
     /// Takes what came of a job: what it writes here is put into the rows, its locks are released, and the request's client is
     /// answered. Refused with `NotCollected` where no job is due at its place, with `StaleJob` where another one is, else
     /// with `OutOfMemory` where a growth was refused.
-    pub fn finish(&mut self, computed: &Computed<A>, outbox: &mut Outbox<A>) -> Result<(), Fault>
+    pub fn take_computed(
+        &mut self,
+        computed: &Computed<A>,
+        outbox: &mut Outbox<A>,
+    ) -> Result<(), Fault>
         ensures did { NodeFinished A.meaning computed.now.job result self.old self.new outbox.old.packets outbox.new.packets }
     {
         self.scheduler.due_is_undone();

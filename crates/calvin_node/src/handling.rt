@@ -2,16 +2,16 @@
 ghost use Rattle.std.specs.Prelude.{[], false, true};
 ghost use Rattle.calvin_sched.specs.Scheduling.{turn_at};
 ghost use Rattle.calvin_sched.specs.Steps as steps;
-ghost use Rattle.calvin_packets.specs.declared.packet.Content.TheVariants.{Warm};
-ghost use Rattle.calvin_acts.specs.Growing.{content_grows};
-ghost use Rattle.calvin_acts.specs.Handling as handling;
-ghost use Rattle.calvin_acts.specs.NodeStates.{site_of};
-ghost use Rattle.calvin_acts.specs.Running.{NodeDid};
+ghost use Rattle.calvin_node_packets.specs.declared.packet.Content.TheVariants.{Warm};
+ghost use Rattle.calvin_node_acts.specs.Growing.{content_grows};
+ghost use Rattle.calvin_node_acts.specs.Handling as handling;
+ghost use Rattle.calvin_node_acts.specs.NodeStates.{site_of};
+ghost use Rattle.calvin_node_acts.specs.Running.{NodeDid};
 
 use crate::node::Node;
 use calvin_app::{App, View};
 use calvin_lock::Locks;
-use calvin_packets::{Address, Content, Outbox, Packet};
+use calvin_node_packets::{Address, Content, Outbox, Packet};
 use calvin_store::Rows;
 use calvin_types::{Fault, NodeId, Place, Sets};
 

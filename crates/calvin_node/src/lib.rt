@@ -12,6 +12,6 @@ mod ordering;
 mod snapshots;
 mod submissions;
 
-pub use calvin_acts::Act;
+pub use calvin_node_acts::Act;
 pub use durable::Durable;
 pub use node::Node;

@@ -4,12 +4,12 @@ ghost use Rattle.std.specs.Option.{option_copied};
 ghost use Rattle.std.specs.FinMap as map;
 ghost use Rattle.calvin_order.specs.Configs.{config_of};
 ghost use Rattle.calvin_order.specs.Sequencing.{next_epoch};
-ghost use Rattle.calvin_acts.specs.NodeStates.{new_node};
+ghost use Rattle.calvin_node_acts.specs.NodeStates.{new_node};
 
 use calvin_app::App;
 use calvin_lock::Locks;
+use calvin_node_sequencing::SequencingLayer;
 use calvin_sched::Scheduler;
-use calvin_sequencing::SequencingLayer;
 use calvin_store::{Rows, Snapshot};
 use calvin_types::{Batch, Config, NodeId, Place, Slot, Txn};
 use std::alloc::Global;
@@ -36,8 +36,8 @@ pub struct Node<A: App, L: Locks + Drop, S: Rows<A::Row> + Drop> {
 impl<A: App, L: Locks + Drop, S: Rows<A::Row> + Drop> Model for Node<A, L, S> {
     ghost use Rattle.std.specs.Coded.{codes};
     ghost use Rattle.std.specs.FinMap.{code};
-    ghost use Rattle.calvin_acts.specs.Layers.{IsNode, node_of, rest_of};
-    ghost use Rattle.calvin_acts.specs.Running.{Running};
+    ghost use Rattle.calvin_node_acts.specs.Layers.{IsNode, node_of, rest_of};
+    ghost use Rattle.calvin_node_acts.specs.Running.{Running};
 
     ghost Value = { Running A.Args A.Row };
 

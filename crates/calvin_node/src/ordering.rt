@@ -1,14 +1,14 @@
 //! The order of a node: the batches that are held are merged, epoch after epoch.
 ghost use Rattle.std.specs.Prelude.{[]};
-ghost use Rattle.calvin_acts.specs.Acting as acting;
-ghost use Rattle.calvin_acts.specs.Growing.{act_grows};
-ghost use Rattle.calvin_acts.specs.Running.{NodeDid};
-ghost use Rattle.calvin_acts.specs.declared.act.Act.TheVariants as act;
+ghost use Rattle.calvin_node_acts.specs.Acting as acting;
+ghost use Rattle.calvin_node_acts.specs.Growing.{act_grows};
+ghost use Rattle.calvin_node_acts.specs.Running.{NodeDid};
+ghost use Rattle.calvin_node_acts.specs.declared.act.Act.TheVariants as act;
 
 use crate::node::Node;
-use calvin_acts::{append_merged, reserve_merged};
 use calvin_app::App;
 use calvin_lock::Locks;
+use calvin_node_acts::{append_merged, reserve_merged};
 use calvin_store::Rows;
 use calvin_types::Fault;
 

@@ -1,12 +1,12 @@
 //! Snapshots of a node's rows, points of consistency, and cold rows.
 ghost use Rattle.std.specs.Prelude.{[], false, true};
-ghost use Rattle.calvin_acts.specs.Acting as acting;
-ghost use Rattle.calvin_acts.specs.Running.{NodeDid};
+ghost use Rattle.calvin_node_acts.specs.Acting as acting;
+ghost use Rattle.calvin_node_acts.specs.Running.{NodeDid};
 
 use crate::node::Node;
-use calvin_acts::has_kept;
 use calvin_app::App;
 use calvin_lock::Locks;
+use calvin_node_acts::has_kept;
 use calvin_store::Rows;
 use calvin_types::{Fault, Key};
 

@@ -1,12 +1,12 @@
 //! What reaches a node's sequencer, the batches that it closes, and the ballots that it begins for them.
 ghost use Rattle.std.specs.Prelude.{[], true};
-ghost use Rattle.calvin_acts.specs.Acting as acting;
-ghost use Rattle.calvin_acts.specs.Running.{NodeDid};
+ghost use Rattle.calvin_node_acts.specs.Acting as acting;
+ghost use Rattle.calvin_node_acts.specs.Running.{NodeDid};
 
 use crate::node::Node;
 use calvin_app::App;
 use calvin_lock::Locks;
-use calvin_packets::Outbox;
+use calvin_node_packets::Outbox;
 use calvin_store::Rows;
 use calvin_types::{Fault, Txn};
 

@@ -1,7 +1,7 @@
 //! The messages of a group's synods, and those about epoch 0. There is one partition, so a node's number is its replica.
 use crate::shown::{Letter, Sent, batch_of, request};
 use calvin_app::KvRequest;
-use calvin_packets::{Address, Content};
+use calvin_node_packets::{Address, Content};
 use calvin_synod::{Message, Vote};
 use calvin_types::{Ballot, Batch, Fault, NodeId, Slot};
 use std::alloc::Global;

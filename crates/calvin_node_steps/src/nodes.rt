@@ -6,7 +6,7 @@ use crate::step::{Step, number_of};
 use calvin_app::{Kv, KvRequest};
 use calvin_lock::Locks;
 use calvin_node::{Act, Durable, Node};
-use calvin_packets::Outbox;
+use calvin_node_packets::Outbox;
 use calvin_store::{PlainRows, Rows};
 use calvin_types::{Batch, Config, Fault, NodeId, Place, Slot};
 use std::alloc::Global;
@@ -97,7 +97,7 @@ impl<L: Locks + Drop, S: Rows<u64> + Drop> Nodes<L, S> {
             return Err(Fault::NoNode);
         };
         let computed = node.job(place)?.compute(&Kv);
-        node.finish(&computed, &mut self.sent)
+        node.take_computed(&computed, &mut self.sent)
     }
 
     /// One more node, opened from a durable record; where that is refused, the record is handed back.

@@ -1,6 +1,6 @@
 //! Requests, batches and packets, to be handed in and compared.
 use calvin_app::{KvReply, KvRequest};
-use calvin_packets::{Content, Packet};
+use calvin_node_packets::{Content, Packet};
 use calvin_synod::Message;
 use calvin_types::{Batch, Fault, Key, KeySet, Place, RequestId, Sets, Txn};
 use std::alloc::Global;

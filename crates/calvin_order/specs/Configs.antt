@@ -1,6 +1,6 @@
 -- What all nodes of a store are opened with, and the order that it gives to batches (Thomson et al. 2012, section 3.1:
 -- every scheduler interleaves the batches of an epoch in one fixed way).
-use Rattle.std.specs.Prelude.{ℕ, Bool, false, zero, suc, nat_le, if◌then◌else◌, List, [], ◌∷◌, ◌++◌, length, Option, Some, None}
+use Rattle.std.specs.Prelude.{ℕ, Bool, false, true, zero, suc, nat_le, if◌then◌else◌, List, [], ◌∷◌, ◌++◌, length, Option, Some, None}
 use Rattle.calvin_types.specs.declared.config.Config.{Config as TheConfig}
 use Rattle.calvin_types.specs.declared.place.Place.{Place}
 use Rattle.calvin_types.specs.declared.place.Slot.{Slot}
@@ -27,6 +27,10 @@ config_of c points cold = record { replicas = c.replicas; partitions = c.partiti
 -- the same where nothing is known of the rows, which no order goes by (law `same_orders`)
 abbrev pub order_config : TheConfig → Config
 order_config c = config_of c false false
+
+-- so many partitions and replicas, this delay and first woven epoch, over rows with points and a cold table, as those of the commands have
+abbrev pub store_config : ℕ → ℕ → ℕ → Option ℕ → Config
+store_config partitions replicas delay woven_from = record { replicas = replicas; partitions = partitions; points = true; cold = true; delay = delay; woven_from = woven_from }
 
 -- a configuration over keepers of rows that can do so much
 abbrev pub over : Config → Bool → Bool → Config

@@ -10,7 +10,7 @@ use Rattle.calvin_bench.proofs.Lists.{get_map}
 use Rattle.calvin_order.specs.Configs.{Config, order}
 use Rattle.calvin_order.specs.Merged.{Assignment}
 use Rattle.calvin_sched.specs.Standing.{stands, greatest_below}
-use Rattle.calvin_acts.specs.NodeStates.{NodeState}
+use Rattle.calvin_node_acts.specs.NodeStates.{NodeState}
 use Rattle.calvin_text.specs.Texts.{lines}
 use Rattle.calvin_world.specs.declared.event.Event.{Event}
 use Rattle.calvin_world.specs.declared.event.Outcome.{Outcome}

@@ -19,9 +19,9 @@ use Rattle.calvin_types.specs.Places.{place_cmp}
 use Rattle.calvin_types.proofs.Fews.{take_at}
 use Rattle.calvin_types.proofs.PlaceOrder.{place_total, place_exact, one_place}
 use Rattle.calvin_app.specs.declared.answer.Answer.{Answer}
-use Rattle.calvin_packets.specs.declared.packet.Packet.{Packet}
-use Rattle.calvin_packets.specs.declared.packet.Content.{Content}
-use Rattle.calvin_packets.specs.declared.packet.Content.TheVariants as content
+use Rattle.calvin_node_packets.specs.declared.packet.Packet.{Packet}
+use Rattle.calvin_node_packets.specs.declared.packet.Content.{Content}
+use Rattle.calvin_node_packets.specs.declared.packet.Content.TheVariants as content
 use Rattle.calvin_report.specs.FirstPut.{put_first}
 use Rattle.calvin_report.specs.Replies.{ByPlace, reply_in, replied}
 

@@ -17,11 +17,11 @@ use Rattle.calvin_types.specs.Submitting.{has_key}
 use Rattle.calvin_sched.proofs.Readiness.{both_true}
 use Rattle.calvin_app.specs.Meaning.{Meaning}
 use Rattle.calvin_order.specs.Sequencing.{Sequencing}
-use Rattle.calvin_acts.specs.NodeStates.{NodeState}
-use Rattle.calvin_acts.specs.declared.act.Act.{Act}
-use Rattle.calvin_acts.specs.declared.act.Act.TheVariants.{Submit, SubmitCold, Cool, Close, Merge, Lock, Restart, Propose, Snapshot, Mark, Begin, Finish, AskForReads, AskForBatch}
-use Rattle.calvin_packets.specs.declared.packet.Packet.{Packet}
-use Rattle.calvin_acts.specs.Acting.{by_sequencer, deed_of, submitted}
+use Rattle.calvin_node_acts.specs.NodeStates.{NodeState}
+use Rattle.calvin_node_acts.specs.declared.act.Act.{Act}
+use Rattle.calvin_node_acts.specs.declared.act.Act.TheVariants.{Submit, SubmitCold, Cool, Close, Merge, Lock, Restart, Propose, Snapshot, Mark, Begin, Finish, AskForReads, AskForBatch}
+use Rattle.calvin_node_packets.specs.declared.packet.Packet.{Packet}
+use Rattle.calvin_node_acts.specs.Acting.{by_sequencer, deed_of, submitted}
 use Rattle.calvin_world.specs.declared.event.Event.{Event}
 use Rattle.calvin_world.specs.declared.event.Event.TheVariants.{At}
 use Rattle.calvin_world.specs.declared.event.Outcome.{Outcome}

@@ -10,9 +10,9 @@ use Rattle.calvin_types.specs.Places.{place_cmp}
 use Rattle.calvin_types.proofs.PlaceOrder.{one_place, same_itself}
 use Rattle.calvin_app.specs.declared.answer.Answer.{Answer}
 use Rattle.calvin_bench.proofs.Lists.{none_in, first_in, first_or_rest, rest_too}
-use Rattle.calvin_packets.specs.declared.packet.Packet.{Packet}
-use Rattle.calvin_packets.specs.declared.packet.Content.{Content}
-use Rattle.calvin_packets.specs.declared.packet.Content.TheVariants as content
+use Rattle.calvin_node_packets.specs.declared.packet.Packet.{Packet}
+use Rattle.calvin_node_packets.specs.declared.packet.Content.{Content}
+use Rattle.calvin_node_packets.specs.declared.packet.Content.TheVariants as content
 use Rattle.calvin_report.specs.Replies.{ByPlace, reply_in}
 
 module _ {X : Type 0} where

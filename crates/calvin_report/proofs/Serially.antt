@@ -23,9 +23,9 @@ use Rattle.calvin_order.specs.Configs.{Config, stretch, order}
 use Rattle.calvin_order.specs.Merged.{Batch, Assignment}
 use Rattle.calvin_order.proofs.Epochs.{stretch_stands, stretch_same, stretch_on, order_rises}
 use Rattle.calvin_order.proofs.Standing.{stands_left}
-use Rattle.calvin_acts.specs.NodeStates.{NodeState}
-use Rattle.calvin_packets.specs.declared.packet.Packet.{Packet}
-use Rattle.calvin_packets.specs.declared.packet.Content.TheVariants.{Replies}
+use Rattle.calvin_node_acts.specs.NodeStates.{NodeState}
+use Rattle.calvin_node_packets.specs.declared.packet.Packet.{Packet}
+use Rattle.calvin_node_packets.specs.declared.packet.Content.TheVariants.{Replies}
 use Rattle.calvin_text.specs.Texts.{lines}
 use Rattle.calvin_world.specs.declared.event.Event.{Event}
 use Rattle.calvin_world.specs.declared.event.Outcome.{Outcome}

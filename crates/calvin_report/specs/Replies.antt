@@ -12,9 +12,9 @@ use Rattle.calvin_types.specs.declared.place.Place.{Place}
 use Rattle.calvin_types.specs.declared.place.RequestId.{RequestId}
 use Rattle.calvin_types.specs.Places.{place_cmp}
 use Rattle.calvin_app.specs.declared.answer.Answer.{Answer}
-use Rattle.calvin_packets.specs.declared.packet.Packet.{Packet}
-use Rattle.calvin_packets.specs.declared.packet.Content.{Content}
-use Rattle.calvin_packets.specs.declared.packet.Content.TheVariants as content
+use Rattle.calvin_node_packets.specs.declared.packet.Packet.{Packet}
+use Rattle.calvin_node_packets.specs.declared.packet.Content.{Content}
+use Rattle.calvin_node_packets.specs.declared.packet.Content.TheVariants as content
 use Rattle.calvin_text.specs.Texts.{line}
 use Rattle.calvin_report.specs.declared.replies.Epochs.{Epochs}
 use Rattle.calvin_report.specs.declared.replies.Epochs.TheVariants.{All, UpTo}

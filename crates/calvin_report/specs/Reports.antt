@@ -13,7 +13,7 @@ use Rattle.std.specs.FinMap.{len}
 use Rattle.calvin_types.specs.declared.place.NodeId.{NodeId}
 use Rattle.calvin_types.specs.Faults.{number_of}
 use Rattle.calvin_sched.specs.Standing.{stands_at}
-use Rattle.calvin_acts.specs.NodeStates.{NodeState}
+use Rattle.calvin_node_acts.specs.NodeStates.{NodeState}
 use Rattle.calvin_world.specs.declared.event.Outcome.{Outcome}
 use Rattle.calvin_world.specs.declared.event.Outcome.TheVariants.{Done, Refused}
 use Rattle.calvin_world.specs.Worlds.{WorldState}

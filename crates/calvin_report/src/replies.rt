@@ -6,7 +6,7 @@ ghost use Rattle.calvin_report.specs.FirstPut.{put_first};
 ghost use Rattle.calvin_report.specs.Replies.{replied, is_told, of_epochs, reply_lines};
 
 use calvin_app::Answer;
-use calvin_packets::{Content, Packet};
+use calvin_node_packets::{Content, Packet};
 use calvin_text::{Printed, push_line};
 use calvin_types::{Fault, Place, RequestId};
 use std::alloc::{AllocError, Global};

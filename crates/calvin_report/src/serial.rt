@@ -5,7 +5,7 @@ ghost use Rattle.calvin_types.specs.declared.place.NodeId.{NodeId};
 ghost use Rattle.calvin_app.specs.Serial.{serial};
 ghost use Rattle.calvin_order.specs.Configs.{Config, order};
 ghost use Rattle.calvin_order.specs.Merged.{Assignment};
-ghost use Rattle.calvin_acts.specs.NodeStates.{NodeState};
+ghost use Rattle.calvin_node_acts.specs.NodeStates.{NodeState};
 ghost use Rattle.calvin_text.specs.Texts.{lines, finished, finished_at};
 ghost use Rattle.calvin_world.specs.declared.event.Event.{Event};
 ghost use Rattle.calvin_world.specs.declared.event.Outcome.{Outcome};

@@ -3,14 +3,16 @@ use Rattle.std.proofs.Common.{◌≡◌, ◌^◌, ℕ, List, Bool, true, false, 
 use Rattle.std.proofs.lemmas.Slice.Eq.{bytes_eq-Decides}
 use Rattle.serde_json.specs.Find.{get, as_str}
 use Rattle.calvin_app.specs.declared.kv.KvRequest.{KvRequest}
+use Rattle.calvin_once.specs.declared.kept.Named.{Named}
 use Rattle.calvin_stock.specs.declared.request.StockRequest.{StockRequest}
-use Rattle.calvin_script.specs.declared.reading.AppName.TheVariants.{Kv, Stock}
+use Rattle.calvin_script.specs.declared.reading.AppName.TheVariants.{Kv, Stock, Once}
 use Rattle.calvin_script.specs.Spelling.{◌>>=◌, only_if, has_only, below, between, list, where_given}
 use Rattle.calvin_script.specs.Grammar.{Grammar}
 use Rattle.calvin_script.specs.Scripts.{Contents, Listed, batch, script, script_of, script_names}
 use Rattle.calvin_script.specs.Documents.{Json, app_of}
 use Rattle.calvin_script.specs.KvOperations.{kv_grammar}
 use Rattle.calvin_script.specs.StockOperations.{stock_grammar}
+use Rattle.calvin_script.specs.OnceOperations.{once_grammar}
 
 tested : {A : Type 0} (test : Bool) (x : Option A) (c : A) → only_if test x ≡ Some c → test ≡ true
 tested true x c e = refl
@@ -44,4 +46,10 @@ pub stock_named : (d : Json) (c : Contents StockRequest) → script stock_gramma
 stock_named d c e =
     let n = app_named stock_grammar d c e in
     let is : n.0 ≡ stock_grammar.app_name = (bytes_eq-Decides n.0 stock_grammar.app_name).0 n.2 in
+    rw (n.1, is) refl
+
+pub once_named : (d : Json) (c : Contents (Named StockRequest)) → script once_grammar d ≡ Some c → app_of d ≡ Some Once
+once_named d c e =
+    let n = app_named once_grammar d c e in
+    let is : n.0 ≡ once_grammar.app_name = (bytes_eq-Decides n.0 once_grammar.app_name).0 n.2 in
     rw (n.1, is) refl

@@ -3,7 +3,9 @@ pub mod Json
 pub mod KeySets
 pub mod Names
 pub mod Apps
+pub mod Applications
 pub mod OrderLines
 pub mod KeptRequests
 pub mod StockKeys
+pub mod OnceKeys
 pub mod Refusals

@@ -9,4 +9,6 @@ pub mod Reading
 pub mod KvOperations
 pub mod Numbers
 pub mod StockOperations
+pub mod OnceOperations
+pub mod Applications
 pub mod Keeping

@@ -4,12 +4,14 @@ ghost use Rattle.serde_json.specs.View.{view};
 ghost use Rattle.calvin_script.specs.Scripts.{contents};
 ghost use Rattle.calvin_script.specs.Reading.{Reads, json, script_from};
 ghost use Rattle.calvin_script.specs.Documents.{data_of, app_of, script_in};
+ghost use Rattle.calvin_script.specs.Applications.{app_contents, app_script};
 
 use crate::contents::Script;
 use crate::kept::Kept;
 use crate::operation::Operation;
 use crate::script::script_of;
 use calvin_app::KvRequest;
+use calvin_once::Named;
 use calvin_stock::StockRequest;
 use calvin_types::Fault;
 use serde_json::{Category, Value};
@@ -22,6 +24,16 @@ pub enum AppName {
     Kv,
     /// Customers, items and orders.
     Stock,
+    /// The same, each request's name once.
+    Once,
+}
+
+/// A script for the application that it names.
+#[derive(Drop)]
+pub enum AppScript {
+    Kv(Script<Kept<KvRequest>>),
+    Stock(Script<Kept<StockRequest>>),
+    Once(Script<Kept<Named<StockRequest>>>),
 }
 
 /// A piece of JSON that may be a script. Its application has to be known before the rest of it can be read.
@@ -56,6 +68,9 @@ impl Document {
         if name == StockRequest::app_name() {
             return Some(AppName::Stock);
         }
+        if name == <Named<StockRequest>>::app_name() {
+            return Some(AppName::Once);
+        }
         None
     }
 
@@ -73,6 +88,19 @@ impl Document {
         ensures { Reads contents result (script_in Op.grammar (data_of self)) }
     {
         script_of(alloc, self.value)
+    }
+
+    /// The script that it is for the application that it names. Refused with `BadScript` where it names none, or doesn't have
+    /// the form of a script for that one, and with `OutOfMemory`.
+    pub fn into_app_script(self, alloc: Global) -> Result<AppScript, Fault>
+        ensures { Reads app_contents result (app_script (data_of self)) }
+    {
+        match self.app() {
+            Some(AppName::Kv) => Ok(AppScript::Kv(self.into_script(alloc)?)),
+            Some(AppName::Stock) => Ok(AppScript::Stock(self.into_script(alloc)?)),
+            Some(AppName::Once) => Ok(AppScript::Once(self.into_script(alloc)?)),
+            None => Err(Fault::BadScript),
+        }
     }
 }
 

@@ -13,7 +13,7 @@ use crate::fields::{between, first_woven, has_only, u8_of};
 use crate::kept::Kept;
 use crate::list::{Spelled, list_of};
 use crate::operation::Operation;
-use calvin_types::{Fault, MOST_PARTITIONS, MOST_REQUESTS};
+use calvin_types::{Config, Fault, MOST_PARTITIONS, MOST_REQUESTS};
 use serde_json::Value;
 use std::alloc::Global;
 
@@ -145,6 +145,23 @@ impl<Op: Operation> Script<Kept<Op>> {
             woven_from,
             epochs,
         })
+    }
+
+    /// What a store of so many replicas is opened with to run the script: without delay.
+    #[inline(always)]
+    pub fn config(&self, replicas: u8) -> Config
+        requires { IsInRange self.now.partitions replicas }
+        ensures partitions { result.partitions ≡ self.now.partitions }
+        ensures replicas { result.replicas ≡ replicas }
+        ensures delay { result.delay ≡ 0 }
+        ensures woven_from { result.woven_from ≡ self.now.woven_from }
+    {
+        Config {
+            partitions: self.partitions,
+            replicas,
+            delay: 0,
+            woven_from: self.woven_from,
+        }
     }
 }
 

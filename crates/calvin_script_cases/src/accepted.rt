@@ -472,8 +472,10 @@ fn app_of(alloc: Global, text: &str) -> Result<Option<AppName>, Fault> {
 }
 
 /// Texts, and the application that each names.
-const APPLICATIONS: [(&str, Option<AppName>); 6] = [
+const APPLICATIONS: [(&str, Option<AppName>); 8] = [
     (r#"{"app":"kv"}"#, Some(AppName::Kv)),
+    (r#"{"app":"once"}"#, Some(AppName::Once)),
+    (r#"{"app":"once "}"#, None),
     (
         r#"{"epochs":7,"app":"stock","app":"kv"}"#,
         Some(AppName::Kv),

@@ -2,4 +2,4 @@ pub mod Blanks
 pub mod Requests
 pub mod Runs
 pub mod Scouts
-pub mod Usual
+pub mod Texts

@@ -7,7 +7,7 @@
 --     scouted_order m script rows e n      so the merged order of n epochs from e on, each over the rows that the epochs before it leave of these
 --     order_of m script sets      the merged order of all the script's epochs, with undeclared sets of this kind
 --     RunsOn m show placed rows new text longer      these requests were run on the rows, and a line for each was added to the text
-use Rattle.std.specs.Prelude.{◌≡◌, ℕ, false, zero, suc, List, [], ◌∷◌, ◌++◌, length, map, if◌then◌else◌, Result, Ok}
+use Rattle.std.specs.Prelude.{◌≡◌, ℕ, zero, suc, List, [], ◌∷◌, ◌++◌, length, map, if◌then◌else◌, Result, Ok}
 use Rattle.std.specs.FinMap.{empty}
 use Rattle.calvin_types.specs.declared.fault.Fault.{Fault}
 use Rattle.calvin_types.specs.declared.place.Place.{Place}
@@ -16,7 +16,7 @@ use Rattle.calvin_types.specs.Orders.{Order}
 use Rattle.calvin_app.specs.Rows.{Rows}
 use Rattle.calvin_app.specs.Meaning.{Meaning}
 use Rattle.calvin_app.specs.Serial.{serial}
-use Rattle.calvin_order.specs.Configs.{Config, merged, order}
+use Rattle.calvin_order.specs.Configs.{Config, store_config, merged, order}
 use Rattle.calvin_recon.specs.Scouting.{found}
 use Rattle.calvin_script.specs.declared.contents.Request.{Request}
 use Rattle.calvin_script.specs.Scripts.{Contents, requests_at, batch_at}
@@ -31,7 +31,7 @@ x >>= f = and_then x f
 
 module _ {Args : Type 0} where
   abbrev pub serial_config : Contents Args → Config
-  serial_config script = record { replicas = 1; partitions = script.partitions; points = false; cold = false; delay = 0; woven_from = script.woven_from }
+  serial_config script = store_config script.partitions 1 0 script.woven_from
 
   abbrev pub placed_txn : Place × Request Args → Place × Txn Args
   placed_txn p = (p.0, p.1.txn)

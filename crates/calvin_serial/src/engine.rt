@@ -5,20 +5,20 @@ ghost use Rattle.std.specs.Io.KnownBytes.{Appends};
 ghost use Rattle.calvin_edge.specs.Answering.{HasText, HasBeginning, Refuses};
 ghost use Rattle.calvin_edge.specs.Devices.{LeavesAsTold};
 ghost use Rattle.calvin_script.specs.Scripts.{contents};
-ghost use Rattle.calvin_script.specs.Reading.{and_then, json, Reads};
-ghost use Rattle.calvin_script.specs.Documents.{data_of};
+ghost use Rattle.calvin_script.specs.Applications.{app_script_from};
+ghost use Rattle.calvin_script.specs.Reading.{and_then, Reads};
 ghost use Rattle.calvin_serial.specs.FirstSets.{NeedsFirst};
-ghost use Rattle.calvin_serial.specs.Engine.{text_of, text_for, text_in, serial_text, IsSerialFault};
+ghost use Rattle.calvin_serial.specs.Engine.{text_of, text_in, serial_text, IsSerialFault};
 
 use crate::scouted::push_scouted_epoch;
 use crate::text::push_epoch;
 use crate::undeclared::UndeclaredSets;
 use calvin_app::{Answer, Kv, Serial, Settles, View, Writes};
 use calvin_edge::{MOST_BYTES, Sink, Source, read_all, write_all};
-use calvin_script::{AppName, Document, Kept, Operation, Script};
-use calvin_stock::Stock;
+use calvin_script::{AppScript, Kept, Operation, Script};
+use calvin_script_tokens::read_script;
+use calvin_stock::{Stock, stock_once};
 use calvin_text::{Printed, push_finished};
-use calvin_tokens::{UsualScript, read_usual};
 use calvin_types::Fault;
 use std::alloc::Global;
 use std::mem;
@@ -70,26 +70,9 @@ where
     Ok(text)
 }
 
-/// The text for a script for an application.
-fn answer_for<A: Settles + Copy + Drop>(
-    alloc: Global,
-    app: A,
-    document: Document,
-    sets: UndeclaredSets,
-) -> Result<Vec<u8>, Fault>
-where
-    A::Args: Operation,
-    A::Reply: Printed,
-    requires { NeedsFirst A.Args.grammar A.meaning }
-    ensures { Reads (λ text. text.items) result (text_for A.meaning A.Args.grammar A.Reply.printed sets (data_of document)) }
-{
-    let script = document.into_script::<A::Args>(alloc)?;
-    text_of(alloc, app, &script, sets)
-}
-
-/// The text for a script of the usual form. It stays in memory: who runs a script ends thereafter, and to give back many
+/// The text for a script, for an application. The script stays in memory: who runs one ends thereafter, and to give back many
 /// small pieces one by one takes up to a thirteenth of the whole run.
-fn usual_text<A: Settles + Copy + Drop>(
+fn text_for<A: Settles + Copy + Drop>(
     alloc: Global,
     app: A,
     script: Script<Kept<A::Args>>,
@@ -106,34 +89,14 @@ where
     text
 }
 
-/// The text for the bytes of a script, for the application that it names, where it isn't written as usual.
-fn general_answer(alloc: Global, bytes: Vec<u8>, sets: UndeclaredSets) -> Result<Vec<u8>, Fault>
-    ensures { Reads (λ text. text.items) result (and_then (json bytes.items) (text_in sets)) }
-{
-    let document = Document::read(alloc, &bytes)?;
-    drop(bytes);
-    match document.app() {
-        Some(AppName::Kv) => answer_for(alloc, Kv, document, sets),
-        Some(AppName::Stock) => answer_for(alloc, Stock, document, sets),
-        None => Err(Fault::BadScript),
-    }
-}
-
-/// The text for the bytes of a script, for the application that it names. Where the script is written as usual it is read
-/// without its JSON as a value, and the bytes are given back before it is run.
+/// The text for the bytes of a script, for the application that it names. The bytes are given back before the script is run.
 fn answer(alloc: Global, bytes: Vec<u8>, sets: UndeclaredSets) -> Result<Vec<u8>, Fault>
-    ensures { Reads (λ text. text.items) result (and_then (json bytes.items) (text_in sets)) }
+    ensures { Reads (λ text. text.items) result (and_then (app_script_from bytes.items) (text_in sets)) }
 {
-    match read_usual(alloc, &bytes) {
-        Some(UsualScript::Kv(script)) => {
-            drop(bytes);
-            usual_text(alloc, Kv, script, sets)
-        }
-        Some(UsualScript::Stock(script)) => {
-            drop(bytes);
-            usual_text(alloc, Stock, script, sets)
-        }
-        None => general_answer(alloc, bytes, sets),
+    match read_script(alloc, bytes)? {
+        AppScript::Kv(script) => text_for(alloc, Kv, script, sets),
+        AppScript::Stock(script) => text_for(alloc, Stock, script, sets),
+        AppScript::Once(script) => text_for(alloc, stock_once(), script, sets),
     }
 }
 

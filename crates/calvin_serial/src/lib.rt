@@ -9,5 +9,4 @@ mod text;
 mod undeclared;
 
 pub use engine::serial;
-pub use listed::requests_of;
 pub use undeclared::UndeclaredSets;

@@ -7,7 +7,6 @@ ghost use Rattle.calvin_serial.specs.Scouting.{serial_config};
 use crate::listed::ListedBatches;
 use calvin_order::EpochRequests;
 use calvin_script::{Kept, Operation, Script};
-use calvin_types::Config;
 
 /// Whether the batches of an epoch of a script are woven. A loop of its own for batches that aren't costs nothing for the weave:
 /// the compiler sees there that none takes turns.
@@ -31,12 +30,8 @@ pub(crate) fn joined_requests<'a, Op: Operation>(
     requires { is_woven listed.now.script.now.woven_from epoch ≡ false }
     ensures { result ≡ merged (serial_config (contents listed.now.script.now)) (requests_at (contents listed.now.script.now)) epoch }
 {
-    let config = Config {
-        partitions: listed.script.partitions,
-        replicas: 1,
-        delay: 0,
-        woven_from: None,
-    };
+    let mut config = listed.script.config(1);
+    config.woven_from = None;
     EpochRequests::new(listed, epoch as u64, &config)
 }
 
@@ -48,11 +43,5 @@ pub(crate) fn requests_in<'a, Op: Operation>(
 ) -> EpochRequests<'a, Kept<Op>, ListedBatches<'a, Kept<Op>>>
     ensures { result ≡ merged (serial_config (contents listed.now.script.now)) (requests_at (contents listed.now.script.now)) epoch }
 {
-    let config = Config {
-        partitions: listed.script.partitions,
-        replicas: 1,
-        delay: 0,
-        woven_from: listed.script.woven_from,
-    };
-    EpochRequests::new(listed, epoch as u64, &config)
+    EpochRequests::new(listed, epoch as u64, &listed.script.config(1))
 }

@@ -9,7 +9,7 @@ use Rattle.calvin_world.specs.Worlds.{WorldState, opening}
 use Rattle.calvin_world.specs.SettledWorlds.{SettledStep, SettledLeads}
 use Rattle.calvin_order.specs.Configs.{Config}
 use Rattle.calvin_script.specs.Scripts.{Contents}
-use Rattle.calvin_schedule.proofs.Leading.{leads_then}
+use Rattle.calvin_sim_events.proofs.Leading.{leads_then}
 use Rattle.calvin_sim.specs.Simulations.{submissions, AllDone, IsSimulation}
 
 module _ {Args Row Reply : Type 0} (m : Meaning Args Row Reply) where

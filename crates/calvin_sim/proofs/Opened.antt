@@ -18,15 +18,15 @@ use Rattle.calvin_bench.proofs.Lists.{set_here, set_other, get_map}
 use Rattle.calvin_order.proofs.Histories.{undecided_more, unused_parts}
 use Rattle.calvin_order.proofs.HoldingBack.{length-parts}
 use Rattle.calvin_order.proofs.NextEpochs.{next_unused}
-use Rattle.calvin_packets.specs.declared.packet.Packet.{Packet}
+use Rattle.calvin_node_packets.specs.declared.packet.Packet.{Packet}
 use Rattle.calvin_order.specs.Sequencing.{Sequencing, HeldBack, ripe, load, is_decided, closing, ticked, ripened, next_epoch, first_not, is_used}
 use Rattle.calvin_order.specs.Configs.{Config}
-use Rattle.calvin_acts.specs.NodeStates.{NodeState, with_sequencer, new_node}
-use Rattle.calvin_acts.specs.Handling.{NodeDeed}
-use Rattle.calvin_acts.specs.Running.{settled}
-use Rattle.calvin_acts.specs.Acting as acting
-use Rattle.calvin_acts.specs.declared.act.Act.{Act}
-use Rattle.calvin_acts.specs.declared.act.Act.TheVariants.{Submit, Close}
+use Rattle.calvin_node_acts.specs.NodeStates.{NodeState, with_sequencer, new_node}
+use Rattle.calvin_node_acts.specs.Handling.{NodeDeed}
+use Rattle.calvin_node_acts.specs.Running.{settled}
+use Rattle.calvin_node_acts.specs.Acting as acting
+use Rattle.calvin_node_acts.specs.declared.act.Act.{Act}
+use Rattle.calvin_node_acts.specs.declared.act.Act.TheVariants.{Submit, Close}
 use Rattle.calvin_script.specs.declared.contents.Request.{Request}
 use Rattle.calvin_script.specs.Scripts.{Listed, requests_of}
 use Rattle.calvin_world.proofs.Indexes.{same_index}

@@ -19,7 +19,7 @@ use Rattle.calvin_types.specs.declared.place.NodeId.{NodeId}
 use Rattle.calvin_types.specs.declared.txn.Txn.{Txn}
 use Rattle.calvin_types.specs.Submitting.{is_taken}
 use Rattle.calvin_app.specs.Meaning.{Meaning}
-use Rattle.calvin_acts.specs.declared.act.Act.TheVariants.{Submit, Close}
+use Rattle.calvin_node_acts.specs.declared.act.Act.TheVariants.{Submit, Close}
 use Rattle.calvin_script.specs.declared.contents.Request.{Request}
 use Rattle.calvin_script.specs.Scripts.{Contents, Listed, requests_of, are_taken}
 use Rattle.calvin_world.specs.declared.event.Event.{Event}

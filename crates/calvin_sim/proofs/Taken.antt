@@ -8,7 +8,7 @@ use Rattle.calvin_types.specs.declared.limits.TheConstants.{MOST_REQUESTS}
 use Rattle.calvin_types.specs.declared.fault.Fault.{Fault}
 use Rattle.calvin_types.specs.declared.fault.Fault.TheVariants.{BadScript}
 use Rattle.calvin_script.specs.declared.contents.Request.{Request}
-use Rattle.calvin_script.specs.Documents.{Json, script_in}
+use Rattle.calvin_script.specs.Documents.{Json}
 use Rattle.calvin_script.specs.Grammar.{Grammar}
 use Rattle.calvin_script.specs.Reading.{and_then, json, script_from}
 use Rattle.calvin_script.specs.Requests.{request}
@@ -119,6 +119,3 @@ module _ {Args : Type 0} where
   pub from_taken : (grammar : Grammar Args) (bytes : List ℕ) (c : Contents Args) → script_from grammar bytes ≡ Ok c → AllTaken c
   unfolding script_from
   from_taken grammar bytes c e = from_json grammar c (json bytes) e
-
-  pub document_taken : (grammar : Grammar Args) (d : Json) (c : Contents Args) → script_in grammar d ≡ Ok c → AllTaken c
-  document_taken grammar d c e = read_taken grammar d c (script grammar d) refl e

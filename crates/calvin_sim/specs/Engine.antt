@@ -1,53 +1,46 @@
 -- What the engine `sim` does with the bytes of a script. The text is of this project; what it tells is the serial run of the
 -- merged order of the batches that were chosen (Thomson et al. 2012, section 3).
 --     fitting script      that the script fits, or BadScript
---     fitting_in d      that the JSON of a script is one for the application that it names, which fits; or BadScript
+--     fitting_in script      the same of a script for the application that it names
 --     sim_script bytes      that the bytes of a script are such a script; or why not
 --     IsRun m grammar show replicas bytes w text      the bytes are a script for the application; its submissions and then quiet events led to the world, of which the text tells
 --     IsSimText replicas bytes simulated text      the same for the application of the world that is given
 --     IsSimFault fault      a fault that the engine may end with, whatever its source and its sink are
-use Rattle.std.specs.Prelude.{◌≡◌, ℕ, List, length, false, if◌then◌else◌, nat_lt, Option, Some, None, Result, Ok, Err}
+use Rattle.std.specs.Prelude.{◌≡◌, ℕ, List, length, false, if◌then◌else◌, nat_lt, Result, Ok, Err}
 use Rattle.calvin_types.specs.declared.fault.Fault.{Fault}
 use Rattle.calvin_types.specs.declared.fault.Fault.TheVariants.{OutOfMemory, BadJson, BadScript, ScriptTooLong, ReadFailed, WriteFailed}
 use Rattle.calvin_edge.specs.declared.reading.TheConstants.{MOST_BYTES}
 use Rattle.calvin_app.specs.Meaning.{Meaning}
 use Rattle.calvin_app.specs.Kv.{kv}
 use Rattle.calvin_stock.specs.Stock.{stock}
-use Rattle.calvin_world.specs.RunningWorlds.{store_config}
+use Rattle.calvin_order.specs.Configs.{store_config}
 use Rattle.calvin_script.specs.Scripts.{Contents}
-use Rattle.calvin_script.specs.declared.reading.AppName.{AppName}
-use Rattle.calvin_script.specs.declared.reading.AppName.TheVariants as app
-use Rattle.calvin_script.specs.Documents.{Json, app_of, script_in}
+use Rattle.calvin_script.specs.Applications.{AppContents, OfKv, OfStock, OfOnce, app_script_from}
 use Rattle.calvin_script.specs.Grammar.{Grammar}
-use Rattle.calvin_script.specs.Reading.{and_then, json, script_from}
+use Rattle.calvin_script.specs.Reading.{and_then, script_from}
 use Rattle.calvin_script.specs.KvOperations.{kv_grammar}
 use Rattle.calvin_script.specs.StockOperations.{stock_grammar}
+use Rattle.calvin_script.specs.OnceOperations.{once_stock, once_grammar}
 use Rattle.calvin_text.specs.Texts.{kv_text, stock_text}
 use Rattle.calvin_world.specs.Worlds.{WorldState}
 use Rattle.calvin_sim.specs.Simulations.{fits, IsSimulation}
 use Rattle.calvin_sim.specs.Telling.{IsTold}
 use Rattle.calvin_sim.specs.declared.engine.Simulated.{Simulated}
-use Rattle.calvin_sim.specs.declared.engine.Simulated.TheVariants.{Kv, Stock}
+use Rattle.calvin_sim.specs.declared.engine.Simulated.TheVariants.{Kv, Stock, Once}
 
 -- ---- which scripts
 
 abbrev pub fitting : {Args : Type 0} → Contents Args → Result (Unit {0}) Fault
 fitting script = if fits script then Ok tt else Err BadScript
 
-abbrev pub fitting_for : {Args : Type 0} → Grammar Args → Json → Result (Unit {0}) Fault
-fitting_for grammar d = and_then (script_in grammar d) fitting
-
--- by the application that is named
-abbrev pub fitting_by : Json → Option AppName → Result (Unit {0}) Fault
-fitting_by d None = Err BadScript
-fitting_by d (Some app.Kv) = fitting_for kv_grammar d
-fitting_by d (Some app.Stock) = fitting_for stock_grammar d
-
-abbrev pub fitting_in : Json → Result (Unit {0}) Fault
-fitting_in d = fitting_by d (app_of d)
+-- of the application that is named
+abbrev pub fitting_in : AppContents → Result (Unit {0}) Fault
+fitting_in (OfKv script) = fitting script
+fitting_in (OfStock script) = fitting script
+fitting_in (OfOnce script) = fitting script
 
 abbrev pub sim_script : List ℕ → Result (Unit {0}) Fault
-sim_script bytes = if nat_lt MOST_BYTES (length bytes) then Err ScriptTooLong else and_then (json bytes) fitting_in
+sim_script bytes = if nat_lt MOST_BYTES (length bytes) then Err ScriptTooLong else and_then (app_script_from bytes) fitting_in
 
 -- ---- what is told
 
@@ -61,6 +54,7 @@ pub record IsRun {Args Row Reply : Type 0} (m : Meaning Args Row Reply) (grammar
 abbrev pub IsSimText : ℕ → List ℕ → Simulated → List ℕ → Type 0
 IsSimText replicas bytes (Kv w) text = IsRun kv kv_grammar kv_text replicas bytes w text
 IsSimText replicas bytes (Stock w) text = IsRun stock stock_grammar stock_text replicas bytes w text
+IsSimText replicas bytes (Once w) text = IsRun once_stock once_grammar stock_text replicas bytes w text
 
 -- want of memory, a script that is refused, or a device that failed
 abbrev pub IsSimFault : Fault → Type 0

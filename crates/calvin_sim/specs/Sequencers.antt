@@ -3,7 +3,7 @@
 --     AreOpen w partitions n e      each group's has, with so many for each
 use Rattle.std.specs.Prelude.{◌≡◌, ℕ, ◌+◌, ◌<◌, ◌≤◌, Some, length}
 use Rattle.calvin_order.specs.Sequencing.{load}
-use Rattle.calvin_acts.specs.NodeStates.{NodeState}
+use Rattle.calvin_node_acts.specs.NodeStates.{NodeState}
 use Rattle.calvin_world.specs.Worlds.{WorldState, node_at}
 use Rattle.calvin_sim.specs.Simulations.{sequencer_of}
 

@@ -18,13 +18,13 @@ use Rattle.calvin_app.specs.Meaning.{Meaning}
 use Rattle.calvin_order.specs.Configs.{Config}
 use Rattle.calvin_script.specs.declared.contents.Request.{Request}
 use Rattle.calvin_script.specs.Scripts.{Contents, Listed, requests_of, are_taken}
-use Rattle.calvin_acts.specs.declared.act.Act.TheVariants.{Submit, Close}
+use Rattle.calvin_node_acts.specs.declared.act.Act.TheVariants.{Submit, Close}
 use Rattle.calvin_world.specs.declared.event.Event.{Event}
 use Rattle.calvin_world.specs.declared.event.Event.TheVariants.{At}
 use Rattle.calvin_world.specs.declared.event.Outcome.TheVariants.{Done}
 use Rattle.calvin_world.specs.Worlds.{WorldState, opening}
 use Rattle.calvin_world.specs.SettledWorlds.{SettledLeads}
-use Rattle.calvin_schedule.specs.Quiet.{LeadsQuietly}
+use Rattle.calvin_sim_events.specs.Quiet.{LeadsQuietly}
 
 abbrev pub sequencer_of : ℕ → NodeId
 sequencer_of g = record { replica = 0; partition = g }

@@ -1,27 +1,25 @@
 //! The engine `sim`: a script in, the text of its run in a whole world out.
-ghost use Rattle.std.specs.Prelude.{◌≡◌, ◌≢◌, ◌+◌, ◌<◌, ℕ, List, length, take, IfOk, IfErr, IfSome, IsErrOf, None, Ok, Err, false, MatchResult};
+ghost use Rattle.std.specs.Prelude.{◌≡◌, ◌≢◌, ◌+◌, ◌<◌, ℕ, List, length, take, IfOk, IfErr, IfSome, IsErrOf, Ok};
 ghost use Rattle.std.specs.Result.{result_err};
 ghost use Rattle.std.specs.Io.KnownBytes.{Appends};
 ghost use Rattle.calvin_edge.specs.Answering.{Refuses};
 ghost use Rattle.calvin_edge.specs.Devices.{LeavesAsTold};
-ghost use Rattle.calvin_world.specs.RunningWorlds.{store_config};
-ghost use Rattle.calvin_script.specs.Documents.{data_of};
-ghost use Rattle.calvin_script.specs.Reading.{and_then, json, script_from, Reads};
-ghost use Rattle.calvin_script.specs.Scripts.{Contents, contents};
-ghost use Rattle.calvin_sim.specs.Engine.{fitting, fitting_for, fitting_in, sim_script, IsRun, IsSimText, IsSimFault};
-ghost use Rattle.calvin_sim.specs.Simulations.{AllTaken, IsSimulation};
-ghost use Rattle.calvin_sim.specs.Telling.{IsTold};
-ghost use Rattle.calvin_sim.specs.declared.engine.Simulated.TheVariants as simulated;
+ghost use Rattle.calvin_script.specs.Applications.{app_script_from};
+ghost use Rattle.calvin_script.specs.Reading.{and_then, script_from, Reads};
+ghost use Rattle.calvin_script.specs.Scripts.{contents};
+ghost use Rattle.calvin_sim.specs.Engine.{fitting, fitting_in, sim_script, IsRun, IsSimText, IsSimFault};
+ghost use Rattle.calvin_sim.specs.Simulations.{AllTaken};
 
-use crate::fitting::{fits, read_is_taken};
+use crate::fitting::fits;
 use crate::telling::simulate_and_tell;
 use calvin_app::{App, Kv};
 use calvin_edge::{Sink, Source, read_all, write_all};
-use calvin_schedule::Schedule;
-use calvin_script::{AppName, Document, Kept, Operation, Script};
-use calvin_stock::Stock;
+use calvin_once::Once;
+use calvin_script::{AppScript, Kept, Operation, Script};
+use calvin_script_tokens::read_script;
+use calvin_sim_events::Schedule;
+use calvin_stock::{Stock, stock_once};
 use calvin_text::Printed;
-use calvin_tokens::{OperationTokens, Scratch, usual_script};
 use calvin_types::Fault;
 use calvin_world::StoreWorld;
 use std::alloc::Global;
@@ -31,6 +29,7 @@ use std::alloc::Global;
 pub enum Simulated {
     Kv(StoreWorld<Kv>),
     Stock(StoreWorld<Stock>),
+    Once(StoreWorld<Once<Stock>>),
 }
 
 /// What came of a script: its world, and the text of it.
@@ -51,8 +50,8 @@ where
     A::Args: Operation,
     A::Reply: Printed,
     requires taken { AllTaken (contents script.now) }
-    ensures simulated { IfOk result (λ r. IsSimulation A.meaning (store_config script.now.partitions schedule.now.replicas 0 script.now.woven_from) (contents script.now) r.0) }
-    ensures told { IfOk result (λ r. IsTold A.meaning A.Reply.printed r.0 r.1.items) }
+    ensures run { IfOk result (λ r. (bytes : List ℕ) → script_from A.Args.grammar bytes ≡ Ok (contents script.now)
+        → IsRun A.meaning A.Args.grammar A.Reply.printed schedule.now.replicas bytes r.0 r.1.items) }
     ensures fits { Reads (λ r. tt) result (fitting (contents script.now)) }
 {
     if !fits(script) {
@@ -61,92 +60,34 @@ where
     simulate_and_tell(alloc, app, script, schedule)
 }
 
-/// Runs the bytes of a script for an application, where it is written as usual: it is read without its JSON as a value, and the
-/// bytes and what reading needed are given back before it is run.
-fn run_usual<A: App + Drop>(
-    alloc: Global,
-    app: A,
-    bytes: &mut Vec<u8>,
-    scratch: &mut Scratch,
-    schedule: &Schedule,
-) -> Option<Result<(StoreWorld<A>, Vec<u8>), Fault>>
-where
-    A::Args: OperationTokens,
-    A::Reply: Printed,
-    ensures run { IfSome result (λ run. (script : Contents A.Args) × (script_from A.Args.grammar bytes.old.items ≡ Ok script)
-        × IfOk run (λ r. IsRun A.meaning A.Args.grammar A.Reply.printed schedule.now.replicas bytes.old.items r.0 r.1.items)
-        × Reads (λ r. tt) run (fitting script)) }
-    ensures kept { result ≡ None → bytes.new ≡ bytes.old }
-{
-    let script = usual_script(alloc, bytes, scratch)?;
-    read_is_taken::<A::Args>();
-    *bytes = Vec::new(alloc);
-    *scratch = Scratch::new(alloc);
-    Some(run_script(alloc, app, &script, schedule))
-}
-
-/// Runs a document for an application.
-fn run_document<A: App + Drop>(
-    alloc: Global,
-    app: A,
-    document: Document,
-    schedule: &Schedule,
-) -> Result<(StoreWorld<A>, Vec<u8>), Fault>
-where
-    A::Args: Operation,
-    A::Reply: Printed,
-    ensures run { IfOk result (λ r. (bytes : List ℕ) → json bytes ≡ Ok (data_of document)
-        → IsRun A.meaning A.Args.grammar A.Reply.printed schedule.now.replicas bytes r.0 r.1.items) }
-    ensures fits { Reads (λ r. tt) result (fitting_for A.Args.grammar (data_of document)) }
-{
-    read_is_taken::<A::Args>();
-    let script = document.into_script::<A::Args>(alloc)?;
-    run_script(alloc, app, &script, schedule)
-}
-
-/// Runs the bytes of a script for the application that it names. A script of another application than the one that is tried
-/// ends its reading at the application's name or at the first operation.
-fn run_bytes(alloc: Global, mut bytes: Vec<u8>, schedule: &Schedule) -> Result<Told, Fault>
+/// Runs the bytes of a script for the application that it names. They are given back before it is run.
+fn run_bytes(alloc: Global, bytes: Vec<u8>, schedule: &Schedule) -> Result<Told, Fault>
     ensures told { IfOk result (λ told. IsSimText schedule.now.replicas bytes.items told.world told.text.items) }
-    ensures fits { Reads (λ told. tt) result (and_then (json bytes.items) fitting_in) }
+    ensures fits { Reads (λ told. tt) result (and_then (app_script_from bytes.items) fitting_in) }
 {
-    let mut scratch = Scratch::new(alloc);
-    if let Some(run) = run_usual(alloc, Kv, &mut bytes, &mut scratch, schedule) {
-        return told_of_kv(run);
+    match read_script(alloc, bytes)? {
+        AppScript::Kv(script) => {
+            let (world, text) = run_script(alloc, Kv, &script, schedule)?;
+            Ok(Told {
+                world: Simulated::Kv(world),
+                text,
+            })
+        }
+        AppScript::Stock(script) => {
+            let (world, text) = run_script(alloc, Stock, &script, schedule)?;
+            Ok(Told {
+                world: Simulated::Stock(world),
+                text,
+            })
+        }
+        AppScript::Once(script) => {
+            let (world, text) = run_script(alloc, stock_once(), &script, schedule)?;
+            Ok(Told {
+                world: Simulated::Once(world),
+                text,
+            })
+        }
     }
-    if let Some(run) = run_usual(alloc, Stock, &mut bytes, &mut scratch, schedule) {
-        return told_of_stock(run);
-    }
-    drop(scratch);
-    let document = Document::read(alloc, &bytes)?;
-    drop(bytes);
-    match document.app() {
-        Some(AppName::Kv) => told_of_kv(run_document(alloc, Kv, document, schedule)),
-        Some(AppName::Stock) => told_of_stock(run_document(alloc, Stock, document, schedule)),
-        None => Err(Fault::BadScript),
-    }
-}
-
-/// What came of a script of `kv`.
-fn told_of_kv(run: Result<(StoreWorld<Kv>, Vec<u8>), Fault>) -> Result<Told, Fault>
-    ensures { MatchResult run (λ r. result ≡ Ok (record { world = simulated.Kv r.0; text = r.1 })) (λ fault. result ≡ Err fault) }
-{
-    let (world, text) = run?;
-    Ok(Told {
-        world: Simulated::Kv(world),
-        text,
-    })
-}
-
-/// What came of a script of `stock`.
-fn told_of_stock(run: Result<(StoreWorld<Stock>, Vec<u8>), Fault>) -> Result<Told, Fault>
-    ensures { MatchResult run (λ r. result ≡ Ok (record { world = simulated.Stock r.0; text = r.1 })) (λ fault. result ≡ Err fault) }
-{
-    let (world, text) = run?;
-    Ok(Told {
-        world: Simulated::Stock(world),
-        text,
-    })
 }
 
 /// Reads a script to the end of the source, runs it in a world under a schedule, and writes a line for each request of the epochs

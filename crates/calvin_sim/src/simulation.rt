@@ -1,15 +1,15 @@
 //! A script is run in a world.
 ghost use Rattle.std.specs.Prelude.{◌≡◌, false, true, IfOk, OnOk, IsOkUnless};
-ghost use Rattle.calvin_world.specs.RunningWorlds.{store_config};
+ghost use Rattle.calvin_order.specs.Configs.{store_config};
 ghost use Rattle.calvin_script.specs.Scripts.{contents};
 ghost use Rattle.calvin_world.specs.Worlds.{opening};
 ghost use Rattle.calvin_sim.specs.Simulations.{AllTaken, fits, IsSimulation};
 
 use crate::submitting::submit_all;
 use calvin_app::App;
-use calvin_schedule::{Schedule, bring_on, draw_events};
 use calvin_script::{Kept, Operation, Script};
-use calvin_types::{Config, Fault};
+use calvin_sim_events::{Schedule, bring_on, draw_events};
+use calvin_types::Fault;
 use calvin_world::StoreWorld;
 use std::alloc::Global;
 
@@ -52,12 +52,7 @@ where
     ensures ok { IfOk result (λ w. IsSimulation A.meaning (store_config script.now.partitions schedule.now.replicas 0 script.now.woven_from) (contents script.now) w) }
     ensures only { IsOkUnless result Fault.OutOfMemory }
 {
-    let config = Config {
-        partitions: script.partitions,
-        replicas: schedule.replicas,
-        delay: 0,
-        woven_from: script.woven_from,
-    };
+    let config = script.config(schedule.replicas);
     let mut world = StoreWorld::<A>::new(alloc, &config, app)?;
     match play(alloc, &mut world, script, schedule) {
         Ok(()) => Ok(world),

@@ -9,8 +9,7 @@ ghost use Rattle.calvin_world.specs.Worlds.{opening};
 
 use calvin_app::App;
 use calvin_node::Act;
-use calvin_script::{Epoch, Kept, Operation, Script};
-use calvin_serial::requests_of;
+use calvin_script::{Epoch, Kept, Operation, Script, requests_of};
 use calvin_types::{Fault, NodeId};
 use calvin_world::{Event, StoreWorld};
 

@@ -1,7 +1,7 @@
 //! What is told of a simulation.
 ghost use Rattle.std.specs.Prelude.{◌≡◌, ◌++◌, false, true, IfOk, IsOkUnless};
 ghost use Rattle.std.specs.FinMap.{entries};
-ghost use Rattle.calvin_world.specs.RunningWorlds.{store_config};
+ghost use Rattle.calvin_order.specs.Configs.{store_config};
 ghost use Rattle.calvin_script.specs.Scripts.{contents};
 ghost use Rattle.calvin_text.specs.Texts.{finished_at};
 ghost use Rattle.calvin_report.specs.declared.replies.Epochs.TheVariants.{UpTo};
@@ -13,8 +13,8 @@ ghost use Rattle.calvin_sim.specs.Telling.{IsTold};
 use crate::simulation::simulate;
 use calvin_app::App;
 use calvin_report::{Epochs, finished, push_replies, replies_of, told_is_serial};
-use calvin_schedule::Schedule;
 use calvin_script::{Kept, Operation, Script};
+use calvin_sim_events::Schedule;
 use calvin_text::{Printed, push_last};
 use calvin_types::Fault;
 use calvin_world::StoreWorld;

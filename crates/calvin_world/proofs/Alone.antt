@@ -14,12 +14,12 @@ use Rattle.calvin_order.specs.Merged.{Batch, numbered}
 use Rattle.calvin_sched.specs.Scheduling.{Turn}
 use Rattle.calvin_sched.specs.Standing.{local_places}
 use Rattle.calvin_sched.specs.Steps as sched
-use Rattle.calvin_packets.specs.declared.packet.Packet.{Packet}
-use Rattle.calvin_packets.specs.declared.packet.Address.TheVariants.{AtNode}
-use Rattle.calvin_acts.specs.declared.act.Act.TheVariants.{Merge, Begin}
-use Rattle.calvin_acts.specs.NodeStates.{NodeState, node_from}
-use Rattle.calvin_acts.specs.Handling.{NodeDeed, handle}
-use Rattle.calvin_acts.specs.Acting as node
+use Rattle.calvin_node_packets.specs.declared.packet.Packet.{Packet}
+use Rattle.calvin_node_packets.specs.declared.packet.Address.TheVariants.{AtNode}
+use Rattle.calvin_node_acts.specs.declared.act.Act.TheVariants.{Merge, Begin}
+use Rattle.calvin_node_acts.specs.NodeStates.{NodeState, node_from}
+use Rattle.calvin_node_acts.specs.Handling.{NodeDeed, handle}
+use Rattle.calvin_node_acts.specs.Acting as node
 use Rattle.calvin_world.specs.declared.event.Event.{Event}
 use Rattle.calvin_world.specs.declared.event.Event.TheVariants.{At, Deliver}
 use Rattle.calvin_world.specs.declared.event.Outcome.{Outcome}

@@ -41,18 +41,18 @@ use Rattle.calvin_sched.specs.Scheduling.{Turn, Scheduling, with_store, reads_he
 use Rattle.calvin_sched.specs.Steps as sched
 use Rattle.calvin_store.specs.Points.{mark_by, mark_at, cool_by}
 use Rattle.calvin_sched.specs.Standing.{local_places, none_done_from, all_done, closed_at, stands, take_map, take_from, take_rows, by_store, mark, warm}
-use Rattle.calvin_packets.specs.declared.packet.Content.{Content}
-use Rattle.calvin_packets.specs.declared.packet.Packet.{Packet}
-use Rattle.calvin_packets.specs.declared.packet.Address.TheVariants.{AtNode, AtClient}
-use Rattle.calvin_packets.specs.declared.packet.Content.TheVariants.{Synod, Decided, AskBatch, Reads, AskReads, Warm, Replies}
-use Rattle.calvin_packets.specs.Packets.{is_for, to_each, synod_packets, participants, warm_packets, telling}
-use Rattle.calvin_acts.specs.NodeStates.{NodeState, own_slot, with_synod, with_sequencer, with_scheduler, holding, restarted}
-use Rattle.calvin_acts.specs.Handling as handling
-use Rattle.calvin_acts.specs.Handling.{NodeDeed, counted}
-use Rattle.calvin_acts.specs.Acting as node
-use Rattle.calvin_acts.specs.declared.act.Act.{Act}
-use Rattle.calvin_acts.specs.declared.act.Act.TheVariants.{Submit, SubmitCold, Cool, Close, Merge, Lock, Restart, Propose, Snapshot, Mark, Begin, Finish, AskForReads, AskForBatch}
-use Rattle.calvin_acts.specs.Acting.{submitted, deed_of}
+use Rattle.calvin_node_packets.specs.declared.packet.Content.{Content}
+use Rattle.calvin_node_packets.specs.declared.packet.Packet.{Packet}
+use Rattle.calvin_node_packets.specs.declared.packet.Address.TheVariants.{AtNode, AtClient}
+use Rattle.calvin_node_packets.specs.declared.packet.Content.TheVariants.{Synod, Decided, AskBatch, Reads, AskReads, Warm, Replies}
+use Rattle.calvin_node_packets.specs.Packets.{is_for, to_each, synod_packets, participants, warm_packets, telling}
+use Rattle.calvin_node_acts.specs.NodeStates.{NodeState, own_slot, with_synod, with_sequencer, with_scheduler, holding, restarted}
+use Rattle.calvin_node_acts.specs.Handling as handling
+use Rattle.calvin_node_acts.specs.Handling.{NodeDeed, counted}
+use Rattle.calvin_node_acts.specs.Acting as node
+use Rattle.calvin_node_acts.specs.declared.act.Act.{Act}
+use Rattle.calvin_node_acts.specs.declared.act.Act.TheVariants.{Submit, SubmitCold, Cool, Close, Merge, Lock, Restart, Propose, Snapshot, Mark, Begin, Finish, AskForReads, AskForBatch}
+use Rattle.calvin_node_acts.specs.Acting.{submitted, deed_of}
 use Rattle.calvin_world.specs.Worlds.{WorldState, index_of}
 use Rattle.calvin_world.specs.Promises.{IsNode, held_by, DoneAtEnd, StandsAtEnd}
 use Rattle.calvin_bench.specs.Turns.{site_of, HasTurn, Begins, Receives, Finishes}

@@ -4,8 +4,8 @@ use Rattle.calvin_app.specs.Kv.{kv}
 use Rattle.calvin_app.specs.declared.kv.KvRequest.{KvRequest}
 use Rattle.calvin_app.specs.declared.kv.KvReply.{KvReply}
 use Rattle.calvin_sched.specs.Standing.{warm}
-use Rattle.calvin_packets.specs.declared.packet.Content.TheVariants.{Warm}
-use Rattle.calvin_acts.specs.Acting as node
+use Rattle.calvin_node_packets.specs.declared.packet.Content.TheVariants.{Warm}
+use Rattle.calvin_node_acts.specs.Acting as node
 use Rattle.calvin_world.specs.WorkedCases.{alone, put_key, put, cold_run, cold_done, RanCold}
 use Rattle.calvin_world.specs.Worlds.{WorldState, Leads, opening}
 use Rattle.calvin_world.proofs.Alone.{first_node, one, done_at, delivered_at}

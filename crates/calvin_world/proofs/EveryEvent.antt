@@ -12,12 +12,12 @@ use Rattle.calvin_app.specs.Rows.{part, view}
 use Rattle.calvin_app.specs.Serial.{answer_one, rows_before, answers_by_place}
 use Rattle.calvin_app.specs.declared.answer.Answer.{Answer}
 use Rattle.calvin_bench.specs.Turns.{site_of, AllBefore, Stands}
-use Rattle.calvin_acts.specs.NodeStates.{NodeState, new_node}
-use Rattle.calvin_packets.specs.declared.packet.Address.{Address}
-use Rattle.calvin_packets.specs.declared.packet.Packet.{Packet}
-use Rattle.calvin_packets.specs.declared.packet.Address.TheVariants.{AtNode, AtClient}
-use Rattle.calvin_packets.specs.declared.packet.Content.TheVariants.{Replies}
-use Rattle.calvin_acts.specs.Handling.{NodeDeed, handle}
+use Rattle.calvin_node_acts.specs.NodeStates.{NodeState, new_node}
+use Rattle.calvin_node_packets.specs.declared.packet.Address.{Address}
+use Rattle.calvin_node_packets.specs.declared.packet.Packet.{Packet}
+use Rattle.calvin_node_packets.specs.declared.packet.Address.TheVariants.{AtNode, AtClient}
+use Rattle.calvin_node_packets.specs.declared.packet.Content.TheVariants.{Replies}
+use Rattle.calvin_node_acts.specs.Handling.{NodeDeed, handle}
 use Rattle.calvin_types.specs.Deeds.{Refuses, Does}
 use Rattle.calvin_order.proofs.Places.{before_by_epoch}
 use Rattle.calvin_order.proofs.Epochs.{merged_same, stretch_rises, stretch_stands, stands_within, stands_beyond}
@@ -40,9 +40,9 @@ use Rattle.calvin_world.proofs.Cases.{Handles, Acts, handle_does, acts_does}
 use Rattle.calvin_bench.proofs.Standing.{done_all, stands_is}
 use Rattle.calvin_world.proofs.RowsAtEnd.{rows_at_end, rows_upto}
 use Rattle.calvin_world.specs.Promises.{held_by, StandsAtEnd, IsNode, IsChosenUpTo, rows_after, Agrees, IsSerial, PointsAreSerial, StandAlike}
-use Rattle.calvin_acts.specs.declared.act.Act.{Act}
-use Rattle.calvin_acts.specs.declared.act.Act.TheVariants.{Merge}
-use Rattle.calvin_acts.specs.Acting.{lock, deed_of}
+use Rattle.calvin_node_acts.specs.declared.act.Act.{Act}
+use Rattle.calvin_node_acts.specs.declared.act.Act.TheVariants.{Merge}
+use Rattle.calvin_node_acts.specs.Acting.{lock, deed_of}
 use Rattle.calvin_types.specs.declared.fault.Fault.{Fault}
 use Rattle.calvin_types.specs.declared.fault.Fault.TheVariants.{NothingToLock}
 use Rattle.calvin_world.specs.declared.event.Event.{Event}

@@ -2,8 +2,8 @@
 use Rattle.std.proofs.Common.{◌≡◌, ◌≢◌, ℕ, Bool, true, false, cond, [], ◌∷◌, ◌++◌, ◌⊎◌, inl, inr, sym, ap, ◌∙◌, Option, Some, None}
 use Rattle.std.specs.Prelude.{nat_lt, max, ◌+◌, ◌^◌}
 use Rattle.std.specs.FinMap.{get, insert, remove}
-use Rattle.calvin_acts.specs.Handling.{counted}
-use Rattle.calvin_acts.specs.NodeStates.{NodeState, holding}
+use Rattle.calvin_node_acts.specs.Handling.{counted}
+use Rattle.calvin_node_acts.specs.NodeStates.{NodeState, holding}
 use Rattle.calvin_order.specs.Merged.{Batch}
 use Rattle.calvin_synod.specs.Cases.{Replica, Silent, ToAll, Deed, Refuses, Does, prepare, accept, promise, handle, propose}
 use Rattle.calvin_synod.specs.Roles.{promise_at, bars_prepare, bars_accept, batch_of, current, with_report, is_enough, counting, sending, refused_at, knows, completes, voters_of, next_ballot, started}

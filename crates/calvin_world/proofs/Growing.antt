@@ -21,16 +21,16 @@ use Rattle.calvin_order.specs.Merged.{Batch}
 use Rattle.calvin_sched.specs.Scheduling.{Turn, Scheduling, reads_here, other_active}
 use Rattle.calvin_sched.specs.Steps.{begun_turn}
 use Rattle.calvin_bench.specs.Turns.{site_of}
-use Rattle.calvin_acts.specs.declared.act.Act.{Act}
-use Rattle.calvin_acts.specs.declared.act.Act.TheVariants.{Submit, SubmitCold, Cool, Close, Merge, Lock, Restart, Propose, Snapshot, Mark, Begin, Finish, AskForReads, AskForBatch}
+use Rattle.calvin_node_acts.specs.declared.act.Act.{Act}
+use Rattle.calvin_node_acts.specs.declared.act.Act.TheVariants.{Submit, SubmitCold, Cool, Close, Merge, Lock, Restart, Propose, Snapshot, Mark, Begin, Finish, AskForReads, AskForBatch}
 use Rattle.calvin_synod.specs.Cases.{message_grows}
 use Rattle.calvin_sched.specs.Scheduling.{is_read_here}
-use Rattle.calvin_acts.specs.Growing.{act_grows, content_grows}
-use Rattle.calvin_acts.specs.NodeStates.{NodeState}
-use Rattle.calvin_packets.specs.declared.packet.Packet.{Packet}
-use Rattle.calvin_packets.specs.declared.packet.Content.{Content}
-use Rattle.calvin_packets.specs.declared.packet.Content.TheVariants.{Synod, Decided, AskBatch, Reads, AskReads, Warm, Replies}
-use Rattle.calvin_packets.specs.Packets.{to_each, synod_packets, telling}
+use Rattle.calvin_node_acts.specs.Growing.{act_grows, content_grows}
+use Rattle.calvin_node_acts.specs.NodeStates.{NodeState}
+use Rattle.calvin_node_packets.specs.declared.packet.Packet.{Packet}
+use Rattle.calvin_node_packets.specs.declared.packet.Content.{Content}
+use Rattle.calvin_node_packets.specs.declared.packet.Content.TheVariants.{Synod, Decided, AskBatch, Reads, AskReads, Warm, Replies}
+use Rattle.calvin_node_packets.specs.Packets.{to_each, synod_packets, telling}
 use Rattle.calvin_world.proofs.Cases.{Handles, Acts}
 
 module _ {Args Row Reply : Type 0} (m : Meaning Args Row Reply) (config : Config) (x next : NodeState Args Row) (sent : List (Packet Args Row Reply)) where

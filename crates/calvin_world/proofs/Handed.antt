@@ -7,10 +7,10 @@ use Rattle.calvin_app.specs.Meaning.{Meaning, WritesWithin}
 use Rattle.calvin_bench.specs.Turns.{site_of, HasTurn}
 use Rattle.calvin_bench.proofs.Growth.{rises_across}
 use Rattle.calvin_bench.proofs.OnePartition.{Keeps}
-use Rattle.calvin_acts.specs.NodeStates.{NodeState}
-use Rattle.calvin_acts.specs.Acting.{lock, lock_by, lock_first}
-use Rattle.calvin_acts.specs.Handling.{NodeDeed}
-use Rattle.calvin_packets.specs.declared.packet.Packet.{Packet}
+use Rattle.calvin_node_acts.specs.NodeStates.{NodeState}
+use Rattle.calvin_node_acts.specs.Acting.{lock, lock_by, lock_first}
+use Rattle.calvin_node_acts.specs.Handling.{NodeDeed}
+use Rattle.calvin_node_packets.specs.declared.packet.Packet.{Packet}
 use Rattle.calvin_order.proofs.Places.{before_by_epoch, before_end, is_lt_false}
 use Rattle.calvin_order.proofs.Standing.{stands_split, stands_left, stands_right}
 use Rattle.calvin_order.proofs.Epochs.{stretch_on, stretch_same, stretch_rises, stretch_stands, stands_within, stands_beyond}

@@ -19,15 +19,15 @@ use Rattle.calvin_types.specs.Deeds.{Refuses, Does}
 use Rattle.calvin_app.specs.Meaning.{Meaning, WritesWithin}
 use Rattle.calvin_bench.proofs.Lists.{set_each, set_map, map_twice, was_map, get_map}
 use Rattle.calvin_order.specs.Configs.{Config}
-use Rattle.calvin_acts.specs.NodeStates.{NodeState, new_node}
-use Rattle.calvin_acts.specs.Handling.{NodeDeed, handle}
-use Rattle.calvin_acts.specs.Acting.{deed_of}
-use Rattle.calvin_acts.specs.Growing.{act_grows, content_grows}
-use Rattle.calvin_acts.specs.Running.{Running, NodeDid}
-use Rattle.calvin_acts.specs.declared.act.Act.{Act}
-use Rattle.calvin_packets.specs.declared.packet.Address.{Address}
-use Rattle.calvin_packets.specs.declared.packet.Address.TheVariants.{AtNode, AtClient}
-use Rattle.calvin_packets.specs.declared.packet.Packet.{Packet}
+use Rattle.calvin_node_acts.specs.NodeStates.{NodeState, new_node}
+use Rattle.calvin_node_acts.specs.Handling.{NodeDeed, handle}
+use Rattle.calvin_node_acts.specs.Acting.{deed_of}
+use Rattle.calvin_node_acts.specs.Growing.{act_grows, content_grows}
+use Rattle.calvin_node_acts.specs.Running.{Running, NodeDid}
+use Rattle.calvin_node_acts.specs.declared.act.Act.{Act}
+use Rattle.calvin_node_packets.specs.declared.packet.Address.{Address}
+use Rattle.calvin_node_packets.specs.declared.packet.Address.TheVariants.{AtNode, AtClient}
+use Rattle.calvin_node_packets.specs.declared.packet.Packet.{Packet}
 use Rattle.calvin_world.specs.declared.event.Event.{Event}
 use Rattle.calvin_world.specs.declared.event.Event.TheVariants.{At, Deliver}
 use Rattle.calvin_world.specs.declared.event.Outcome.{Outcome}

@@ -5,12 +5,12 @@ use Rattle.std.specs.List.{Contains, range_with_len}
 use Rattle.std.specs.FinMap.{get}
 use Rattle.std.proofs.lemmas.Bool.{cases_eq}
 use Rattle.std.proofs.lemmas.List.Elements.{Contains-append_left, Contains-append_right, Contains-append_cases}
-use Rattle.calvin_acts.specs.NodeStates.{NodeState}
-use Rattle.calvin_packets.specs.declared.packet.Content.{Content}
-use Rattle.calvin_packets.specs.declared.packet.Packet.{Packet}
-use Rattle.calvin_packets.specs.declared.packet.Address.TheVariants.{AtNode}
-use Rattle.calvin_packets.specs.declared.packet.Content.TheVariants.{Synod, Decided}
-use Rattle.calvin_packets.specs.Packets.{synod_packets, to_each}
+use Rattle.calvin_node_acts.specs.NodeStates.{NodeState}
+use Rattle.calvin_node_packets.specs.declared.packet.Content.{Content}
+use Rattle.calvin_node_packets.specs.declared.packet.Packet.{Packet}
+use Rattle.calvin_node_packets.specs.declared.packet.Address.TheVariants.{AtNode}
+use Rattle.calvin_node_packets.specs.declared.packet.Content.TheVariants.{Synod, Decided}
+use Rattle.calvin_node_packets.specs.Packets.{synod_packets, to_each}
 use Rattle.calvin_order.specs.Merged.{Batch}
 use Rattle.calvin_synod.specs.Cases.{Replica, Letters, Silent, ToOne, ToAll, Does, fresh}
 use Rattle.calvin_synod.specs.declared.message.Message.{Message}

@@ -37,3 +37,4 @@ pub mod SettledHistories
 pub mod SettledCalls
 pub mod Led
 pub mod InCode
+pub mod Jobs

@@ -9,9 +9,9 @@ use Rattle.std.proofs.lemmas.List.Elements.{Contains-append_left, Contains-appen
 use Rattle.calvin_app.specs.Meaning.{Meaning, WritesWithin}
 use Rattle.calvin_app.specs.Rows.{Rows}
 use Rattle.calvin_app.specs.declared.answer.Answer.{Answer}
-use Rattle.calvin_acts.specs.NodeStates.{NodeState}
-use Rattle.calvin_packets.specs.declared.packet.Packet.{Packet}
-use Rattle.calvin_packets.specs.declared.packet.Content.TheVariants.{Reads, Replies}
+use Rattle.calvin_node_acts.specs.NodeStates.{NodeState}
+use Rattle.calvin_node_packets.specs.declared.packet.Packet.{Packet}
+use Rattle.calvin_node_packets.specs.declared.packet.Content.TheVariants.{Reads, Replies}
 use Rattle.calvin_order.specs.Configs.{Config, stretch, order}
 use Rattle.calvin_order.specs.Merged.{Batch, Assignment, end_of}
 use Rattle.calvin_types.specs.Orders.{Order, StandsAt}

@@ -9,13 +9,13 @@ use Rattle.calvin_app.specs.Meaning.{Meaning, WritesWithin}
 use Rattle.calvin_app.specs.Rows.{Rows}
 use Rattle.calvin_app.specs.Stores.{warmed, cooled}
 use Rattle.calvin_bench.specs.Turns.{IsDone, site_of, AllBefore, Stands, Takes, Marks}
-use Rattle.calvin_acts.specs.Handling.{counted}
-use Rattle.calvin_acts.specs.NodeStates.{NodeState, holding, with_synod, with_scheduler, restarted}
-use Rattle.calvin_packets.specs.declared.packet.Content.{Content}
-use Rattle.calvin_packets.specs.declared.packet.Packet.{Packet}
-use Rattle.calvin_packets.specs.declared.packet.Address.TheVariants.{AtNode, AtClient}
-use Rattle.calvin_packets.specs.declared.packet.Content.TheVariants.{Synod, Decided, AskBatch, Reads, AskReads, Warm, Replies}
-use Rattle.calvin_packets.specs.Packets.{synod_packets, to_each, participants, warm_packets, telling}
+use Rattle.calvin_node_acts.specs.Handling.{counted}
+use Rattle.calvin_node_acts.specs.NodeStates.{NodeState, holding, with_synod, with_scheduler, restarted}
+use Rattle.calvin_node_packets.specs.declared.packet.Content.{Content}
+use Rattle.calvin_node_packets.specs.declared.packet.Packet.{Packet}
+use Rattle.calvin_node_packets.specs.declared.packet.Address.TheVariants.{AtNode, AtClient}
+use Rattle.calvin_node_packets.specs.declared.packet.Content.TheVariants.{Synod, Decided, AskBatch, Reads, AskReads, Warm, Replies}
+use Rattle.calvin_node_packets.specs.Packets.{synod_packets, to_each, participants, warm_packets, telling}
 use Rattle.calvin_order.proofs.Places.{before_by_epoch, before_end}
 use Rattle.calvin_order.proofs.Standing.{stands_right}
 use Rattle.calvin_order.proofs.Epochs.{merged_same, stretch_on, stands_within, from_end}
@@ -35,8 +35,8 @@ use Rattle.calvin_types.specs.declared.txn.Txn.{Txn}
 use Rattle.calvin_world.proofs.Cases.{TakesAtEnd, MarksAtEnd, Handles, Acts, restarted_synod}
 use Rattle.calvin_bench.proofs.Standing.{local_in, local_joined, DoneHere, done_all, all_earlier, stands_is}
 use Rattle.calvin_world.specs.Promises.{loaded_epochs, held_by, StandsAtEnd, IsNode}
-use Rattle.calvin_acts.specs.declared.act.Act.{Act}
-use Rattle.calvin_acts.specs.declared.act.Act.TheVariants.{Submit, SubmitCold, Cool, Close, Merge, Lock, Restart, Propose, Snapshot, Mark, Begin, Finish, AskForReads, AskForBatch}
+use Rattle.calvin_node_acts.specs.declared.act.Act.{Act}
+use Rattle.calvin_node_acts.specs.declared.act.Act.TheVariants.{Submit, SubmitCold, Cool, Close, Merge, Lock, Restart, Propose, Snapshot, Mark, Begin, Finish, AskForReads, AskForBatch}
 use Rattle.calvin_world.specs.Worlds.{WorldState, index_of}
 use Rattle.calvin_bench.specs.Lives
 use Rattle.calvin_bench.proofs.Lists.{none_in, only_in, first_in, from_map, get_none, get_only, get_map}

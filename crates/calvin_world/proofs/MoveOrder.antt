@@ -23,11 +23,11 @@ use Rattle.calvin_order.specs.Merged.{Batch, numbered}
 use Rattle.calvin_order.specs.Merging.{Batches}
 use Rattle.calvin_order.specs.Sequencing.{Sequencing, sequencing_from}
 use Rattle.calvin_sched.specs.Standing.{local_places}
-use Rattle.calvin_acts.specs.declared.act.Act.TheVariants.{Submit, Close, Propose, Merge}
-use Rattle.calvin_packets.specs.declared.packet.Content.TheVariants.{Synod, Decided}
-use Rattle.calvin_acts.specs.Acting as node
-use Rattle.calvin_acts.specs.Handling.{handle, by_synod, on_vote, on_decided}
-use Rattle.calvin_acts.specs.NodeStates.{new_node}
+use Rattle.calvin_node_acts.specs.declared.act.Act.TheVariants.{Submit, Close, Propose, Merge}
+use Rattle.calvin_node_packets.specs.declared.packet.Content.TheVariants.{Synod, Decided}
+use Rattle.calvin_node_acts.specs.Acting as node
+use Rattle.calvin_node_acts.specs.Handling.{handle, by_synod, on_vote, on_decided}
+use Rattle.calvin_node_acts.specs.NodeStates.{new_node}
 use Rattle.calvin_world.specs.declared.event.Event.TheVariants.{At, Deliver}
 use Rattle.calvin_world.specs.declared.event.Outcome.TheVariants.{Done}
 use Rattle.calvin_world.specs.WorkedCases.{done_times, first_place}

@@ -36,10 +36,10 @@ use Rattle.calvin_sched.specs.Scheduling.{Turn, Scheduling, new_turn, turn_at, t
 use Rattle.calvin_sched.specs.Standing.{stands, none_done_from, greatest_below}
 use Rattle.calvin_sched.specs.Steps as sched
 use Rattle.calvin_sched.proofs.Readiness.{none_kept}
-use Rattle.calvin_acts.specs.declared.act.Act.TheVariants.{Lock, Begin, Finish}
-use Rattle.calvin_packets.specs.declared.packet.Content.TheVariants.{Reads}
-use Rattle.calvin_acts.specs.Acting as node
-use Rattle.calvin_acts.specs.Handling.{handle, by_scheduler}
+use Rattle.calvin_node_acts.specs.declared.act.Act.TheVariants.{Lock, Begin, Finish}
+use Rattle.calvin_node_packets.specs.declared.packet.Content.TheVariants.{Reads}
+use Rattle.calvin_node_acts.specs.Acting as node
+use Rattle.calvin_node_acts.specs.Handling.{handle, by_scheduler}
 use Rattle.calvin_world.specs.declared.event.Event.TheVariants.{At, Deliver}
 use Rattle.calvin_world.specs.declared.event.Outcome.TheVariants.{Done}
 use Rattle.calvin_world.specs.WorkedCases.{put_key, first_place, done_times}

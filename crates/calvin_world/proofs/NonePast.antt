@@ -21,14 +21,14 @@ use Rattle.calvin_sched.specs.Scheduling.{Turn, Scheduling, is_before, is_past, 
 use Rattle.calvin_sched.specs.Steps.{admitted, admit, begun_turn, with_rows}
 use Rattle.calvin_sched.specs.declared.phase.Phase.TheVariants.{Done}
 use Rattle.calvin_sched.proofs.Keepers.{less_of}
-use Rattle.calvin_acts.specs.NodeStates.{NodeState, site_of, with_synod}
-use Rattle.calvin_acts.specs.Handling.{handle, counted}
-use Rattle.calvin_packets.specs.declared.packet.Packet.{Packet}
-use Rattle.calvin_packets.specs.declared.packet.Content.{Content}
-use Rattle.calvin_packets.specs.declared.packet.Content.TheVariants.{Synod, Decided, AskBatch, Reads, AskReads, Warm, Replies}
-use Rattle.calvin_acts.specs.declared.act.Act.{Act}
-use Rattle.calvin_acts.specs.declared.act.Act.TheVariants.{Submit, SubmitCold, Cool, Close, Merge, Lock, Restart, Propose, Snapshot, Mark, Begin, Finish, AskForReads, AskForBatch}
-use Rattle.calvin_acts.specs.Acting.{deed_of, lock, lock_by, lock_first}
+use Rattle.calvin_node_acts.specs.NodeStates.{NodeState, site_of, with_synod}
+use Rattle.calvin_node_acts.specs.Handling.{handle, counted}
+use Rattle.calvin_node_packets.specs.declared.packet.Packet.{Packet}
+use Rattle.calvin_node_packets.specs.declared.packet.Content.{Content}
+use Rattle.calvin_node_packets.specs.declared.packet.Content.TheVariants.{Synod, Decided, AskBatch, Reads, AskReads, Warm, Replies}
+use Rattle.calvin_node_acts.specs.declared.act.Act.{Act}
+use Rattle.calvin_node_acts.specs.declared.act.Act.TheVariants.{Submit, SubmitCold, Cool, Close, Merge, Lock, Restart, Propose, Snapshot, Mark, Begin, Finish, AskForReads, AskForBatch}
+use Rattle.calvin_node_acts.specs.Acting.{deed_of, lock, lock_by, lock_first}
 use Rattle.calvin_bench.proofs.Insertions.{insert_each}
 use Rattle.calvin_bench.proofs.Deeds.{refuses_not, does_is, admit_does}
 use Rattle.calvin_bench.proofs.ReachedReplicas.{StaysDone, admitted_done}

@@ -19,9 +19,9 @@ use Rattle.calvin_order.specs.Configs.{Config}
 use Rattle.calvin_sched.specs.declared.phase.Phase.TheVariants as phase
 use Rattle.calvin_sched.specs.Scheduling.{Turn, Scheduling, new_turn, with_turn, local_writes}
 use Rattle.calvin_sched.specs.Steps as sched
-use Rattle.calvin_packets.specs.declared.packet.Address.TheVariants.{AtClient}
-use Rattle.calvin_packets.specs.declared.packet.Content.TheVariants.{Replies}
-use Rattle.calvin_acts.specs.Acting as node
+use Rattle.calvin_node_packets.specs.declared.packet.Address.TheVariants.{AtClient}
+use Rattle.calvin_node_packets.specs.declared.packet.Content.TheVariants.{Replies}
+use Rattle.calvin_node_acts.specs.Acting as node
 use Rattle.calvin_world.specs.WorkedCases.{alone_with, own_id, putting}
 use Rattle.calvin_world.proofs.OneSlot.{Node, Sent, KvDeed}
 

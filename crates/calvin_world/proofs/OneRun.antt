@@ -25,10 +25,10 @@ use Rattle.calvin_sched.specs.Scheduling.{Turn, new_turn, turn_at, turn_done, is
 use Rattle.calvin_sched.specs.Standing.{stands, none_done_from, greatest_below}
 use Rattle.calvin_sched.specs.Steps as sched
 use Rattle.calvin_sched.proofs.Readiness.{none_kept}
-use Rattle.calvin_packets.specs.declared.packet.Address.TheVariants.{AtClient}
-use Rattle.calvin_packets.specs.declared.packet.Content.TheVariants.{Replies}
-use Rattle.calvin_acts.specs.Acting as node
-use Rattle.calvin_acts.specs.declared.act.Act.TheVariants.{Submit, Close, Merge}
+use Rattle.calvin_node_packets.specs.declared.packet.Address.TheVariants.{AtClient}
+use Rattle.calvin_node_packets.specs.declared.packet.Content.TheVariants.{Replies}
+use Rattle.calvin_node_acts.specs.Acting as node
+use Rattle.calvin_node_acts.specs.declared.act.Act.TheVariants.{Submit, Close, Merge}
 use Rattle.calvin_world.specs.declared.event.Event.{Event}
 use Rattle.calvin_world.specs.declared.event.Event.TheVariants.{At}
 use Rattle.calvin_world.specs.declared.event.Outcome.{Outcome}

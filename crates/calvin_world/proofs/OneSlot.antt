@@ -25,13 +25,13 @@ use Rattle.calvin_synod.specs.Roles.{promise_in, vote_in, bars_prepare, bars_acc
 use Rattle.calvin_order.specs.Configs.{Config}
 use Rattle.calvin_order.specs.Merged.{Batch}
 use Rattle.calvin_order.specs.Sequencing.{closed_in}
-use Rattle.calvin_packets.specs.declared.packet.Packet.{Packet}
-use Rattle.calvin_packets.specs.declared.packet.Address.TheVariants.{AtNode}
-use Rattle.calvin_packets.specs.declared.packet.Content.{Content}
-use Rattle.calvin_packets.specs.declared.packet.Content.TheVariants.{Synod}
-use Rattle.calvin_acts.specs.NodeStates.{NodeState, holding}
-use Rattle.calvin_acts.specs.Handling.{NodeDeed, handle, by_synod, on_vote}
-use Rattle.calvin_acts.specs.Acting as node
+use Rattle.calvin_node_packets.specs.declared.packet.Packet.{Packet}
+use Rattle.calvin_node_packets.specs.declared.packet.Address.TheVariants.{AtNode}
+use Rattle.calvin_node_packets.specs.declared.packet.Content.{Content}
+use Rattle.calvin_node_packets.specs.declared.packet.Content.TheVariants.{Synod}
+use Rattle.calvin_node_acts.specs.NodeStates.{NodeState, holding}
+use Rattle.calvin_node_acts.specs.Handling.{NodeDeed, handle, by_synod, on_vote}
+use Rattle.calvin_node_acts.specs.Acting as node
 use Rattle.calvin_app.specs.Kv.{kv}
 use Rattle.calvin_world.specs.declared.event.Outcome.TheVariants.{Done}
 use Rattle.calvin_world.specs.WorkedCases.{alone_with, own_id, deciding}

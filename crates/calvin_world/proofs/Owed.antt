@@ -6,14 +6,14 @@ use Rattle.std.specs.FinMap.{get, insert, get-empty}
 use Rattle.std.proofs.lemmas.List.Elements.{Contains-append_cases}
 use Rattle.calvin_app.specs.Meaning.{Meaning}
 use Rattle.calvin_bench.specs.Turns.{site_of}
-use Rattle.calvin_acts.specs.Handling.{counted}
-use Rattle.calvin_acts.specs.NodeStates.{NodeState, own_slot, holding, with_synod, with_scheduler, restarted}
-use Rattle.calvin_packets.specs.declared.packet.Content.{Content}
-use Rattle.calvin_packets.specs.declared.packet.Packet.{Packet}
-use Rattle.calvin_packets.specs.declared.packet.Address.TheVariants.{AtNode}
-use Rattle.calvin_packets.specs.declared.packet.Content.TheVariants.{Synod, Decided, AskBatch, Reads, AskReads, Warm, Replies}
+use Rattle.calvin_node_acts.specs.Handling.{counted}
+use Rattle.calvin_node_acts.specs.NodeStates.{NodeState, own_slot, holding, with_synod, with_scheduler, restarted}
+use Rattle.calvin_node_packets.specs.declared.packet.Content.{Content}
+use Rattle.calvin_node_packets.specs.declared.packet.Packet.{Packet}
+use Rattle.calvin_node_packets.specs.declared.packet.Address.TheVariants.{AtNode}
+use Rattle.calvin_node_packets.specs.declared.packet.Content.TheVariants.{Synod, Decided, AskBatch, Reads, AskReads, Warm, Replies}
 use Rattle.calvin_lock.specs.Local.{local_sets}
-use Rattle.calvin_packets.specs.Packets.{synod_packets, to_each, others, participants, warm_packets, telling}
+use Rattle.calvin_node_packets.specs.Packets.{synod_packets, to_each, others, participants, warm_packets, telling}
 use Rattle.calvin_order.specs.Merged.{Batch}
 use Rattle.calvin_sched.specs.Scheduling.{other_active, reads_here}
 use Rattle.calvin_synod.specs.Cases.{slot_of, Replica, Letters, Silent, ToOne, ToAll, Deed, Does, handle, propose, restart}
@@ -26,8 +26,8 @@ use Rattle.calvin_types.specs.declared.txn.Txn.{Txn}
 use Rattle.calvin_types.specs.declared.place.Slot.{Slot}
 use Rattle.calvin_world.proofs.Cases.{Handles, Acts, restarted_synod}
 use Rattle.calvin_world.specs.Promises.{IsNode, Chosen}
-use Rattle.calvin_acts.specs.declared.act.Act.{Act}
-use Rattle.calvin_acts.specs.declared.act.Act.TheVariants.{Submit, SubmitCold, Cool, Close, Merge, Lock, Restart, Propose, Snapshot, Mark, Begin, Finish, AskForReads, AskForBatch}
+use Rattle.calvin_node_acts.specs.declared.act.Act.{Act}
+use Rattle.calvin_node_acts.specs.declared.act.Act.TheVariants.{Submit, SubmitCold, Cool, Close, Merge, Lock, Restart, Propose, Snapshot, Mark, Begin, Finish, AskForReads, AskForBatch}
 use Rattle.calvin_world.specs.Worlds.{WorldState, index_of}
 use Rattle.calvin_synod.proofs.Replicas.{HoldsAt, holds_at}
 use Rattle.calvin_synod.proofs.Core.{Said}

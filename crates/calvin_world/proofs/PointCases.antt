@@ -22,10 +22,10 @@ use Rattle.calvin_sched.specs.Scheduling.{with_store, new_turn, turn_at, turn_do
 use Rattle.calvin_sched.specs.Standing.{by_store, closed_at, none_done_from}
 use Rattle.calvin_sched.specs.Steps as sched
 use Rattle.calvin_sched.proofs.Readiness.{none_kept}
-use Rattle.calvin_acts.specs.NodeStates.{restarted}
-use Rattle.calvin_acts.specs.Handling.{by_scheduler}
-use Rattle.calvin_acts.specs.Acting as node
-use Rattle.calvin_acts.specs.declared.act.Act.TheVariants.{Mark, Snapshot, Restart}
+use Rattle.calvin_node_acts.specs.NodeStates.{restarted}
+use Rattle.calvin_node_acts.specs.Handling.{by_scheduler}
+use Rattle.calvin_node_acts.specs.Acting as node
+use Rattle.calvin_node_acts.specs.declared.act.Act.TheVariants.{Mark, Snapshot, Restart}
 use Rattle.calvin_world.specs.declared.event.Event.TheVariants.{At}
 use Rattle.calvin_world.specs.WorkedCases.{alone, own_id, first_place, put_key, put, done_times, ordering, running, marked_run, marked_done, RanMarked, over_a_point, point_refusals}
 use Rattle.calvin_world.specs.Worlds.{WorldState, Leads, opening}

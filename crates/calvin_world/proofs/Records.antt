@@ -11,10 +11,10 @@ use Rattle.calvin_app.specs.Meaning.{Meaning}
 use Rattle.calvin_app.specs.Serial.{serial}
 use Rattle.calvin_order.specs.Configs.{Config, is_woven, woven, stretch, order}
 use Rattle.calvin_order.specs.Merged.{Assignment, joined, numbered}
-use Rattle.calvin_acts.specs.NodeStates.{NodeState}
-use Rattle.calvin_acts.specs.Handling.{NodeDeed}
-use Rattle.calvin_acts.specs.Acting.{restart}
-use Rattle.calvin_acts.specs.Durables.{Durable, is_below, is_same, is_order_changed, durable_of, opened_by, from_durable}
+use Rattle.calvin_node_acts.specs.NodeStates.{NodeState}
+use Rattle.calvin_node_acts.specs.Handling.{NodeDeed}
+use Rattle.calvin_node_acts.specs.Acting.{restart}
+use Rattle.calvin_node_acts.specs.Durables.{Durable, is_below, is_same, is_order_changed, durable_of, opened_by, from_durable}
 use Rattle.calvin_world.specs.Promises.{rows_after, with_woven}
 
 -- ---- orders

@@ -20,10 +20,10 @@ use Rattle.calvin_sched.specs.Scheduling.{Turn, is_done}
 use Rattle.calvin_sched.specs.Standing.{by_store, closed_at, none_done_from, stands, greatest_below}
 use Rattle.calvin_sched.specs.Steps as sched
 use Rattle.calvin_sched.proofs.Readiness.{none_kept}
-use Rattle.calvin_acts.specs.declared.act.Act.TheVariants.{Cool, Mark, Snapshot, Restart, Begin}
-use Rattle.calvin_acts.specs.NodeStates.{restarted}
-use Rattle.calvin_acts.specs.Handling.{by_scheduler}
-use Rattle.calvin_acts.specs.Acting as node
+use Rattle.calvin_node_acts.specs.declared.act.Act.TheVariants.{Cool, Mark, Snapshot, Restart, Begin}
+use Rattle.calvin_node_acts.specs.NodeStates.{restarted}
+use Rattle.calvin_node_acts.specs.Handling.{by_scheduler}
+use Rattle.calvin_node_acts.specs.Acting as node
 use Rattle.calvin_world.specs.declared.event.Event.TheVariants.{At, Deliver}
 use Rattle.calvin_world.specs.declared.event.Outcome.TheVariants.{Done, Refused}
 use Rattle.calvin_world.specs.WorkedCases.{alone_with, alone, own_id, first_place, put_key, one_run, one_done, reply_delivered, reply_refused, kept_run, kept_done, RanKept, plain_run, plain_done}

@@ -17,14 +17,14 @@ use Rattle.calvin_types.specs.Places.{place_cmp}
 use Rattle.calvin_app.specs.Meaning.{Meaning}
 use Rattle.calvin_order.specs.Configs.{Config}
 use Rattle.calvin_bench.proofs.Lists.{set_each, set_map, map_twice, was_map}
-use Rattle.calvin_acts.specs.NodeStates.{NodeState, new_node}
-use Rattle.calvin_acts.specs.Handling.{NodeDeed, handle}
-use Rattle.calvin_acts.specs.Acting.{deed_of}
-use Rattle.calvin_acts.specs.Growing.{act_grows}
-use Rattle.calvin_acts.specs.Running.{settled}
-use Rattle.calvin_packets.specs.declared.packet.Address.{Address}
-use Rattle.calvin_packets.specs.declared.packet.Address.TheVariants.{AtNode, AtClient}
-use Rattle.calvin_packets.specs.declared.packet.Packet.{Packet}
+use Rattle.calvin_node_acts.specs.NodeStates.{NodeState, new_node}
+use Rattle.calvin_node_acts.specs.Handling.{NodeDeed, handle}
+use Rattle.calvin_node_acts.specs.Acting.{deed_of}
+use Rattle.calvin_node_acts.specs.Growing.{act_grows}
+use Rattle.calvin_node_acts.specs.Running.{settled}
+use Rattle.calvin_node_packets.specs.declared.packet.Address.{Address}
+use Rattle.calvin_node_packets.specs.declared.packet.Address.TheVariants.{AtNode, AtClient}
+use Rattle.calvin_node_packets.specs.declared.packet.Packet.{Packet}
 use Rattle.calvin_world.specs.declared.event.Event.{Event}
 use Rattle.calvin_world.specs.declared.event.Event.TheVariants.{At, Deliver}
 use Rattle.calvin_world.specs.declared.event.Outcome.{Outcome}

@@ -12,7 +12,7 @@ use Rattle.std.specs.List.{Contains}
 use Rattle.calvin_app.specs.Meaning.{Meaning, WritesWithin}
 use Rattle.calvin_order.specs.Configs.{order}
 use Rattle.calvin_order.proofs.Epochs.{stretch_stands}
-use Rattle.calvin_acts.specs.Running.{settled}
+use Rattle.calvin_node_acts.specs.Running.{settled}
 use Rattle.calvin_world.specs.declared.event.Event.{Event}
 use Rattle.calvin_world.specs.declared.event.Outcome.{Outcome}
 use Rattle.calvin_world.specs.Worlds.{WorldState, opening, Leads}

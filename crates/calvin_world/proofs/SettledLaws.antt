@@ -17,13 +17,13 @@ use Rattle.calvin_app.specs.Meaning.{Meaning, WritesWithin}
 use Rattle.calvin_order.specs.Configs.{Config, order}
 use Rattle.calvin_order.specs.Merged.{Batch, Assignment}
 use Rattle.calvin_bench.proofs.Lists.{get_map}
-use Rattle.calvin_acts.specs.NodeStates.{NodeState}
-use Rattle.calvin_acts.specs.Handling.{NodeDeed}
-use Rattle.calvin_acts.specs.Acting.{lock}
-use Rattle.calvin_acts.specs.Running.{settled}
-use Rattle.calvin_acts.specs.declared.act.Act.TheVariants.{Lock}
-use Rattle.calvin_packets.specs.declared.packet.Packet.{Packet}
-use Rattle.calvin_packets.specs.declared.packet.Content.TheVariants.{Replies}
+use Rattle.calvin_node_acts.specs.NodeStates.{NodeState}
+use Rattle.calvin_node_acts.specs.Handling.{NodeDeed}
+use Rattle.calvin_node_acts.specs.Acting.{lock}
+use Rattle.calvin_node_acts.specs.Running.{settled}
+use Rattle.calvin_node_acts.specs.declared.act.Act.TheVariants.{Lock}
+use Rattle.calvin_node_packets.specs.declared.packet.Packet.{Packet}
+use Rattle.calvin_node_packets.specs.declared.packet.Content.TheVariants.{Replies}
 use Rattle.calvin_world.specs.declared.event.Event.{Event}
 use Rattle.calvin_world.specs.declared.event.Outcome.{Outcome}
 use Rattle.calvin_world.specs.Worlds.{WorldState, index_of, opening, Leads}

@@ -36,19 +36,19 @@ use Rattle.calvin_sched.proofs.Standings.{all_left, stands_left}
 use Rattle.calvin_bench.proofs.Deeds.{refuses_not, does_is}
 use Rattle.calvin_bench.proofs.Seats.{left_twice, left_later}
 use Rattle.calvin_bench.proofs.ReachedReplicas.{StaysDone, begun_done, received_done, finished_done}
-use Rattle.calvin_acts.specs.NodeStates.{NodeState, site_of, own_slot, with_synod}
-use Rattle.calvin_packets.specs.Packets.{is_for}
-use Rattle.calvin_acts.specs.Handling.{NodeDeed, counted, by_synod, on_vote, on_synod, on_decided, on_ask_batch, by_scheduler, serve_again, on_ask_reads, handle_content, handle}
-use Rattle.calvin_acts.specs.Acting as node
-use Rattle.calvin_acts.specs.Acting.{deed_of}
-use Rattle.calvin_acts.specs.Growing.{act_grows}
-use Rattle.calvin_acts.specs.Running.{settled}
-use Rattle.calvin_packets.specs.declared.packet.Packet.{Packet}
-use Rattle.calvin_packets.specs.declared.packet.Address.TheVariants.{AtNode, AtClient}
-use Rattle.calvin_packets.specs.declared.packet.Content.{Content}
-use Rattle.calvin_packets.specs.declared.packet.Content.TheVariants.{Synod, Decided, AskBatch, Reads, AskReads, Warm, Replies}
-use Rattle.calvin_acts.specs.declared.act.Act.{Act}
-use Rattle.calvin_acts.specs.declared.act.Act.TheVariants.{Submit, SubmitCold, Cool, Close, Merge, Lock, Restart, Propose, Snapshot, Mark, Begin, Finish, AskForReads, AskForBatch}
+use Rattle.calvin_node_acts.specs.NodeStates.{NodeState, site_of, own_slot, with_synod}
+use Rattle.calvin_node_packets.specs.Packets.{is_for}
+use Rattle.calvin_node_acts.specs.Handling.{NodeDeed, counted, by_synod, on_vote, on_synod, on_decided, on_ask_batch, by_scheduler, serve_again, on_ask_reads, handle_content, handle}
+use Rattle.calvin_node_acts.specs.Acting as node
+use Rattle.calvin_node_acts.specs.Acting.{deed_of}
+use Rattle.calvin_node_acts.specs.Growing.{act_grows}
+use Rattle.calvin_node_acts.specs.Running.{settled}
+use Rattle.calvin_node_packets.specs.declared.packet.Packet.{Packet}
+use Rattle.calvin_node_packets.specs.declared.packet.Address.TheVariants.{AtNode, AtClient}
+use Rattle.calvin_node_packets.specs.declared.packet.Content.{Content}
+use Rattle.calvin_node_packets.specs.declared.packet.Content.TheVariants.{Synod, Decided, AskBatch, Reads, AskReads, Warm, Replies}
+use Rattle.calvin_node_acts.specs.declared.act.Act.{Act}
+use Rattle.calvin_node_acts.specs.declared.act.Act.TheVariants.{Submit, SubmitCold, Cool, Close, Merge, Lock, Restart, Propose, Snapshot, Mark, Begin, Finish, AskForReads, AskForBatch}
 use Rattle.calvin_world.proofs.NonePast.{NonePast, admit_stays}
 
 module _ {Args Row : Type 0} where

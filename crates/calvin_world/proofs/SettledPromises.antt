@@ -4,8 +4,8 @@
 use Rattle.std.proofs.Common.{◌≡◌, ℕ, ◌≤◌, sym, subst, ◌∙◌}
 use Rattle.calvin_types.specs.declared.place.NodeId.{NodeId}
 use Rattle.calvin_app.specs.Meaning.{Meaning}
-use Rattle.calvin_acts.specs.NodeStates.{NodeState}
-use Rattle.calvin_acts.specs.Running.{settled}
+use Rattle.calvin_node_acts.specs.NodeStates.{NodeState}
+use Rattle.calvin_node_acts.specs.Running.{settled}
 use Rattle.calvin_world.specs.Worlds.{WorldState, index_of}
 use Rattle.calvin_world.specs.SettledWorlds.{settled_world}
 use Rattle.calvin_world.specs.Promises.{StandsAtEnd, DoneAtEnd, IsNode, IsSerial, PointsAreSerial, AreAlike, StandAlike}

@@ -4,7 +4,7 @@ use Rattle.std.specs.Prelude.{slice_get, nat_lt, unwrap_or}
 use Rattle.std.specs.FinMap.{get, empty}
 use Rattle.std.proofs.lemmas.Bool.{cases_lt}
 use Rattle.calvin_app.specs.Meaning.{Meaning, WritesWithin}
-use Rattle.calvin_acts.specs.NodeStates.{NodeState}
+use Rattle.calvin_node_acts.specs.NodeStates.{NodeState}
 use Rattle.calvin_order.proofs.Places.{before_end}
 use Rattle.calvin_order.proofs.Epochs.{stretch_on, stretch_same, stretch_rises, stretch_stands}
 use Rattle.calvin_order.specs.Configs.{stretch, order}

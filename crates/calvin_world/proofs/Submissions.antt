@@ -29,17 +29,17 @@ use Rattle.calvin_order.specs.Sequencing.{is_used, next_epoch}
 use Rattle.calvin_order.proofs.Joining.{numbered_stands}
 use Rattle.calvin_order.proofs.Standing.{stands_split}
 use Rattle.calvin_order.proofs.Epochs.{stretch_stands}
-use Rattle.calvin_packets.specs.declared.packet.Address.{Address}
-use Rattle.calvin_packets.specs.declared.packet.Packet.{Packet}
-use Rattle.calvin_packets.specs.declared.packet.Address.TheVariants.{AtNode, AtClient}
-use Rattle.calvin_packets.specs.declared.packet.Content.TheVariants.{Synod, Warm, Replies}
-use Rattle.calvin_packets.specs.declared.packet.Content.{Content}
-use Rattle.calvin_packets.specs.Packets.{participants}
-use Rattle.calvin_acts.specs.NodeStates.{NodeState, new_node}
-use Rattle.calvin_acts.specs.Handling.{NodeDeed, handle}
-use Rattle.calvin_acts.specs.declared.act.Act.{Act}
-use Rattle.calvin_acts.specs.declared.act.Act.TheVariants.{Submit, SubmitCold, Cool, Close, Merge, Lock, Restart, Propose, Snapshot, Mark, Begin, Finish, AskForReads, AskForBatch}
-use Rattle.calvin_acts.specs.Acting.{deed_of, submitted}
+use Rattle.calvin_node_packets.specs.declared.packet.Address.{Address}
+use Rattle.calvin_node_packets.specs.declared.packet.Packet.{Packet}
+use Rattle.calvin_node_packets.specs.declared.packet.Address.TheVariants.{AtNode, AtClient}
+use Rattle.calvin_node_packets.specs.declared.packet.Content.TheVariants.{Synod, Warm, Replies}
+use Rattle.calvin_node_packets.specs.declared.packet.Content.{Content}
+use Rattle.calvin_node_packets.specs.Packets.{participants}
+use Rattle.calvin_node_acts.specs.NodeStates.{NodeState, new_node}
+use Rattle.calvin_node_acts.specs.Handling.{NodeDeed, handle}
+use Rattle.calvin_node_acts.specs.declared.act.Act.{Act}
+use Rattle.calvin_node_acts.specs.declared.act.Act.TheVariants.{Submit, SubmitCold, Cool, Close, Merge, Lock, Restart, Propose, Snapshot, Mark, Begin, Finish, AskForReads, AskForBatch}
+use Rattle.calvin_node_acts.specs.Acting.{deed_of, submitted}
 use Rattle.calvin_world.specs.declared.event.Event.{Event}
 use Rattle.calvin_world.specs.declared.event.Outcome.{Outcome}
 use Rattle.calvin_world.specs.declared.event.Event.TheVariants.{At, Deliver}

@@ -22,15 +22,15 @@ use Rattle.calvin_order.specs.Merged.{Batch}
 use Rattle.calvin_order.specs.Sequencing.{Sequencing, is_used, ticked, delayed, closing, decide}
 use Rattle.calvin_sched.specs.Scheduling.{reads_here, other_active}
 use Rattle.calvin_bench.specs.Turns.{site_of}
-use Rattle.calvin_packets.specs.declared.packet.Content.{Content}
-use Rattle.calvin_packets.specs.declared.packet.Packet.{Packet}
-use Rattle.calvin_packets.specs.declared.packet.Content.TheVariants.{Synod, Decided, AskBatch, Reads, AskReads, Warm, Replies}
-use Rattle.calvin_packets.specs.Packets.{synod_packets, participants, warm_packets, telling}
-use Rattle.calvin_acts.specs.NodeStates.{NodeState, own_slot, with_synod, holding, restarted}
-use Rattle.calvin_acts.specs.Handling.{counted}
-use Rattle.calvin_acts.specs.declared.act.Act.{Act}
-use Rattle.calvin_acts.specs.declared.act.Act.TheVariants.{Submit, SubmitCold, Cool, Close, Merge, Lock, Restart, Propose, Snapshot, Mark, Begin, Finish, AskForReads, AskForBatch}
-use Rattle.calvin_acts.specs.Acting.{submitted}
+use Rattle.calvin_node_packets.specs.declared.packet.Content.{Content}
+use Rattle.calvin_node_packets.specs.declared.packet.Packet.{Packet}
+use Rattle.calvin_node_packets.specs.declared.packet.Content.TheVariants.{Synod, Decided, AskBatch, Reads, AskReads, Warm, Replies}
+use Rattle.calvin_node_packets.specs.Packets.{synod_packets, participants, warm_packets, telling}
+use Rattle.calvin_node_acts.specs.NodeStates.{NodeState, own_slot, with_synod, holding, restarted}
+use Rattle.calvin_node_acts.specs.Handling.{counted}
+use Rattle.calvin_node_acts.specs.declared.act.Act.{Act}
+use Rattle.calvin_node_acts.specs.declared.act.Act.TheVariants.{Submit, SubmitCold, Cool, Close, Merge, Lock, Restart, Propose, Snapshot, Mark, Begin, Finish, AskForReads, AskForBatch}
+use Rattle.calvin_node_acts.specs.Acting.{submitted}
 use Rattle.calvin_world.specs.Worlds.{WorldState, index_of}
 use Rattle.calvin_world.specs.Promises.{IsNode}
 use Rattle.calvin_world.proofs.Cases.{Handles, Acts, restarted_synod}

@@ -20,11 +20,11 @@ use Rattle.calvin_order.specs.Merged.{Batch}
 use Rattle.calvin_sched.specs.Scheduling.{is_done}
 use Rattle.calvin_sched.specs.Standing.{stands, none_done_from, greatest_below}
 use Rattle.calvin_sched.proofs.Readiness.{none_kept}
-use Rattle.calvin_acts.specs.declared.act.Act.TheVariants.{Submit, Close, Merge, Lock, Restart, Propose}
-use Rattle.calvin_packets.specs.declared.packet.Content.TheVariants.{Synod}
-use Rattle.calvin_acts.specs.NodeStates.{restarted}
-use Rattle.calvin_acts.specs.Handling.{handle, by_synod}
-use Rattle.calvin_acts.specs.Acting as node
+use Rattle.calvin_node_acts.specs.declared.act.Act.TheVariants.{Submit, Close, Merge, Lock, Restart, Propose}
+use Rattle.calvin_node_packets.specs.declared.packet.Content.TheVariants.{Synod}
+use Rattle.calvin_node_acts.specs.NodeStates.{restarted}
+use Rattle.calvin_node_acts.specs.Handling.{handle, by_synod}
+use Rattle.calvin_node_acts.specs.Acting as node
 use Rattle.calvin_world.specs.declared.event.Event.TheVariants.{At, Deliver}
 use Rattle.calvin_world.specs.declared.event.Outcome.TheVariants as event
 use Rattle.calvin_world.specs.WorkedCases.{alone, own_id, put, done_times, deciding, restarting, after_restart, RanRestart, outbid, outbid_done, RanOutbid, empty_run, empty_done, RanEmpty}

@@ -20,10 +20,10 @@ use Rattle.calvin_synod.specs.declared.message.Message.TheVariants as message
 use Rattle.calvin_synod.specs.Roles.{counting, sending, voted}
 use Rattle.calvin_order.specs.Merged.{Batch}
 use Rattle.calvin_order.specs.Sequencing.{Sequencing}
-use Rattle.calvin_acts.specs.declared.act.Act.TheVariants.{Submit, Close, Propose}
-use Rattle.calvin_acts.specs.Acting as node
-use Rattle.calvin_acts.specs.Handling.{handle, by_synod}
-use Rattle.calvin_acts.specs.NodeStates.{new_node}
+use Rattle.calvin_node_acts.specs.declared.act.Act.TheVariants.{Submit, Close, Propose}
+use Rattle.calvin_node_acts.specs.Acting as node
+use Rattle.calvin_node_acts.specs.Handling.{handle, by_synod}
+use Rattle.calvin_node_acts.specs.NodeStates.{new_node}
 use Rattle.calvin_world.specs.declared.event.Event.TheVariants.{At, Deliver}
 use Rattle.calvin_world.specs.declared.event.Outcome.TheVariants.{Done, Refused}
 use Rattle.calvin_world.specs.WorkedCases.{first_slot, put, done_times}

@@ -30,9 +30,9 @@ use Rattle.calvin_store.specs.Points.{mark_at}
 use Rattle.calvin_sched.specs.Standing.{closed_at, none_done_from, by_store}
 use Rattle.calvin_sched.specs.Steps as sched
 use Rattle.calvin_sched.proofs.Readiness.{none_kept, none_passes}
-use Rattle.calvin_acts.specs.Handling.{by_scheduler}
-use Rattle.calvin_acts.specs.Acting as node
-use Rattle.calvin_acts.specs.declared.act.Act.TheVariants.{Submit, Close, Merge, Mark, Snapshot}
+use Rattle.calvin_node_acts.specs.Handling.{by_scheduler}
+use Rattle.calvin_node_acts.specs.Acting as node
+use Rattle.calvin_node_acts.specs.declared.act.Act.TheVariants.{Submit, Close, Merge, Mark, Snapshot}
 use Rattle.calvin_world.specs.declared.event.Event.TheVariants.{At}
 use Rattle.calvin_world.specs.declared.event.Outcome.TheVariants.{Refused}
 use Rattle.calvin_world.specs.WorkedCases.{alone, own_id, first_place, second_place, put_key, put, putting, deciding, done_times, ordering, running, marked_in_time, marked_in_time_done, RanInTime, unmarked, unmarked_done}

@@ -25,11 +25,11 @@ use Rattle.calvin_order.specs.Merging.{batch_at}
 use Rattle.calvin_order.specs.Sequencing.{next_epoch}
 use Rattle.calvin_sched.specs.Scheduling.{Turn, turn_at}
 use Rattle.calvin_sched.specs.Standing.{local_places, all_done, stands}
-use Rattle.calvin_acts.specs.declared.act.Act.{Act}
-use Rattle.calvin_acts.specs.Acting.{submitted}
-use Rattle.calvin_packets.specs.declared.packet.Packet.{Packet}
-use Rattle.calvin_packets.specs.declared.packet.Content.TheVariants.{Synod, Reads, Replies}
-use Rattle.calvin_acts.specs.NodeStates.{NodeState}
+use Rattle.calvin_node_acts.specs.declared.act.Act.{Act}
+use Rattle.calvin_node_acts.specs.Acting.{submitted}
+use Rattle.calvin_node_packets.specs.declared.packet.Packet.{Packet}
+use Rattle.calvin_node_packets.specs.declared.packet.Content.TheVariants.{Synod, Reads, Replies}
+use Rattle.calvin_node_acts.specs.NodeStates.{NodeState}
 use Rattle.calvin_world.specs.declared.event.Event.{Event}
 use Rattle.calvin_world.specs.declared.event.Outcome.{Outcome}
 use Rattle.calvin_world.specs.declared.event.Event.TheVariants.{At}

@@ -1,20 +1,16 @@
 -- A world in code: its nodes and packets. The notion is of this project.
---     store_config partitions replicas delay woven_from      what a store is opened with whose rows have points and a cold table, as those of the commands have
 --     world_of c nodes packets      the world of these nodes and packets
 --     IsOpened c nodes      they are all nodes of a store that is opened with this
 --     IsReached m w      a list of events led from the opening to this world
-use Rattle.std.specs.Prelude.{◌≡◌, ℕ, ◌*◌, true, List, map, length, Option, Some, slice_get}
+use Rattle.std.specs.Prelude.{◌≡◌, ℕ, ◌*◌, List, map, length, Some, slice_get}
 use Rattle.calvin_app.specs.Meaning.{Meaning}
 use Rattle.calvin_order.specs.Configs.{Config}
-use Rattle.calvin_packets.specs.declared.packet.Packet.{Packet}
-use Rattle.calvin_acts.specs.Running.{Running}
+use Rattle.calvin_node_packets.specs.declared.packet.Packet.{Packet}
+use Rattle.calvin_node_acts.specs.Running.{Running}
 use Rattle.calvin_world.specs.declared.event.Event.{Event}
 use Rattle.calvin_world.specs.declared.event.Outcome.{Outcome}
 use Rattle.calvin_world.specs.Worlds.{WorldState, opening}
 use Rattle.calvin_world.specs.SettledWorlds.{SettledLeads}
-
-abbrev pub store_config : ℕ → ℕ → ℕ → Option ℕ → Config
-store_config partitions replicas delay woven_from = record { replicas = replicas; partitions = partitions; points = true; cold = true; delay = delay; woven_from = woven_from }
 
 module _ {Args Row Reply : Type 0} where
   abbrev pub world_of : Config → List (Running Args Row) → List (Packet Args Row Reply) → WorldState Args Row Reply

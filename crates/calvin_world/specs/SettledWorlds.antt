@@ -5,9 +5,9 @@ use Rattle.calvin_types.specs.declared.fault.Fault.{Fault}
 use Rattle.calvin_types.specs.declared.fault.Fault.TheVariants.{OutOfMemory}
 use Rattle.calvin_types.specs.declared.place.NodeId.{NodeId}
 use Rattle.calvin_app.specs.Meaning.{Meaning}
-use Rattle.calvin_acts.specs.NodeStates.{NodeState}
-use Rattle.calvin_packets.specs.declared.packet.Packet.{Packet}
-use Rattle.calvin_acts.specs.Running.{settled}
+use Rattle.calvin_node_acts.specs.NodeStates.{NodeState}
+use Rattle.calvin_node_packets.specs.declared.packet.Packet.{Packet}
+use Rattle.calvin_node_acts.specs.Running.{settled}
 use Rattle.calvin_world.specs.declared.event.Event.{Event}
 use Rattle.calvin_world.specs.declared.event.Outcome.{Outcome}
 use Rattle.calvin_world.specs.declared.event.Outcome.TheVariants.{Done, Refused}

@@ -13,10 +13,10 @@ use Rattle.calvin_synod.specs.declared.message.Message.{Message}
 use Rattle.calvin_synod.specs.declared.message.Message.TheVariants as message
 use Rattle.calvin_order.specs.Configs.{Config}
 use Rattle.calvin_order.specs.Merged.{Batch}
-use Rattle.calvin_acts.specs.declared.act.Act.TheVariants.{Submit, Close, Propose}
-use Rattle.calvin_packets.specs.declared.packet.Packet.{Packet}
-use Rattle.calvin_packets.specs.declared.packet.Address.TheVariants.{AtNode}
-use Rattle.calvin_packets.specs.declared.packet.Content.TheVariants.{Synod}
+use Rattle.calvin_node_acts.specs.declared.act.Act.TheVariants.{Submit, Close, Propose}
+use Rattle.calvin_node_packets.specs.declared.packet.Packet.{Packet}
+use Rattle.calvin_node_packets.specs.declared.packet.Address.TheVariants.{AtNode}
+use Rattle.calvin_node_packets.specs.declared.packet.Content.TheVariants.{Synod}
 use Rattle.calvin_world.specs.declared.event.Event.{Event}
 use Rattle.calvin_world.specs.declared.event.Outcome.{Outcome}
 use Rattle.calvin_world.specs.declared.event.Event.TheVariants.{At, Deliver}

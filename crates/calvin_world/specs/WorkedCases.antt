@@ -18,11 +18,11 @@ use Rattle.calvin_sched.specs.Standing.{stands_at}
 use Rattle.calvin_synod.specs.Roles.{promise_at}
 use Rattle.calvin_synod.specs.declared.message.Message.TheVariants as message
 use Rattle.calvin_order.specs.Configs.{Config}
-use Rattle.calvin_acts.specs.declared.act.Act.TheVariants.{Submit, SubmitCold, Close, Merge, Lock, Restart, Propose, Snapshot, Mark, Cool, Begin, Finish}
-use Rattle.calvin_packets.specs.declared.packet.Address.TheVariants.{AtNode, AtClient}
-use Rattle.calvin_packets.specs.declared.packet.Content.TheVariants.{Synod, Warm, Replies}
-use Rattle.calvin_acts.specs.NodeStates.{NodeState}
-use Rattle.calvin_acts.specs.Durables.{durable_of, opened_by, from_durable}
+use Rattle.calvin_node_acts.specs.declared.act.Act.TheVariants.{Submit, SubmitCold, Close, Merge, Lock, Restart, Propose, Snapshot, Mark, Cool, Begin, Finish}
+use Rattle.calvin_node_packets.specs.declared.packet.Address.TheVariants.{AtNode, AtClient}
+use Rattle.calvin_node_packets.specs.declared.packet.Content.TheVariants.{Synod, Warm, Replies}
+use Rattle.calvin_node_acts.specs.NodeStates.{NodeState}
+use Rattle.calvin_node_acts.specs.Durables.{durable_of, opened_by, from_durable}
 use Rattle.calvin_world.specs.declared.event.Event.{Event}
 use Rattle.calvin_world.specs.declared.event.Outcome.{Outcome}
 use Rattle.calvin_world.specs.declared.event.Event.TheVariants.{At, Deliver}

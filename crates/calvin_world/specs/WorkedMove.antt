@@ -18,12 +18,12 @@ use Rattle.calvin_synod.specs.declared.message.Message.TheVariants as message
 use Rattle.calvin_order.specs.Configs.{Config}
 use Rattle.calvin_order.specs.Merged.{Batch}
 use Rattle.calvin_sched.specs.Standing.{stands_at}
-use Rattle.calvin_acts.specs.declared.act.Act.TheVariants.{Submit, Close, Merge, Lock, Propose, Begin, Finish}
-use Rattle.calvin_packets.specs.declared.packet.Packet.{Packet}
-use Rattle.calvin_packets.specs.declared.packet.Address.TheVariants.{AtNode, AtClient}
-use Rattle.calvin_packets.specs.declared.packet.Content.{Content}
-use Rattle.calvin_packets.specs.declared.packet.Content.TheVariants.{Synod, Decided, Reads, Replies}
-use Rattle.calvin_acts.specs.NodeStates.{NodeState}
+use Rattle.calvin_node_acts.specs.declared.act.Act.TheVariants.{Submit, Close, Merge, Lock, Propose, Begin, Finish}
+use Rattle.calvin_node_packets.specs.declared.packet.Packet.{Packet}
+use Rattle.calvin_node_packets.specs.declared.packet.Address.TheVariants.{AtNode, AtClient}
+use Rattle.calvin_node_packets.specs.declared.packet.Content.{Content}
+use Rattle.calvin_node_packets.specs.declared.packet.Content.TheVariants.{Synod, Decided, Reads, Replies}
+use Rattle.calvin_node_acts.specs.NodeStates.{NodeState}
 use Rattle.calvin_world.specs.declared.event.Event.{Event}
 use Rattle.calvin_world.specs.declared.event.Event.TheVariants.{At, Deliver}
 use Rattle.calvin_world.specs.WorkedCases.{alone, put_key, put, first_place}

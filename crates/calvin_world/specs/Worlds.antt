@@ -12,13 +12,13 @@ use Rattle.calvin_types.specs.Keys.{partition_of}
 use Rattle.calvin_types.specs.Deeds.{Refuses, Does}
 use Rattle.calvin_app.specs.Meaning.{Meaning}
 use Rattle.calvin_order.specs.Configs.{Config}
-use Rattle.calvin_packets.specs.declared.packet.Address.{Address}
-use Rattle.calvin_packets.specs.declared.packet.Packet.{Packet}
-use Rattle.calvin_packets.specs.declared.packet.Address.TheVariants.{AtNode, AtClient}
-use Rattle.calvin_acts.specs.NodeStates.{NodeState, new_node}
-use Rattle.calvin_acts.specs.Growing.{content_grows, act_grows}
-use Rattle.calvin_acts.specs.Handling.{NodeDeed, handle}
-use Rattle.calvin_acts.specs.Acting.{deed_of}
+use Rattle.calvin_node_packets.specs.declared.packet.Address.{Address}
+use Rattle.calvin_node_packets.specs.declared.packet.Packet.{Packet}
+use Rattle.calvin_node_packets.specs.declared.packet.Address.TheVariants.{AtNode, AtClient}
+use Rattle.calvin_node_acts.specs.NodeStates.{NodeState, new_node}
+use Rattle.calvin_node_acts.specs.Growing.{content_grows, act_grows}
+use Rattle.calvin_node_acts.specs.Handling.{NodeDeed, handle}
+use Rattle.calvin_node_acts.specs.Acting.{deed_of}
 use Rattle.calvin_world.specs.declared.event.Event.{Event}
 use Rattle.calvin_world.specs.declared.event.Event.TheVariants.{At, Deliver}
 use Rattle.calvin_world.specs.declared.event.Outcome.{Outcome}

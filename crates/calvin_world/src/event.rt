@@ -3,7 +3,7 @@ use calvin_node::Act;
 use calvin_types::{Fault, NodeId};
 
 /// One event.
-#[derive(Debug, Drop, PartialEq, Eq)]
+#[derive(Clone, Copy, Debug, PartialEq, Eq)]
 pub enum Event<Args> {
     /// One of a node's own events.
     At(NodeId, Act<Args>),

@@ -5,10 +5,10 @@ ghost use Rattle.calvin_types.specs.declared.fault.Fault.TheVariants.{OrderChang
 ghost use Rattle.calvin_types.specs.declared.place.NodeId.{NodeId};
 ghost use Rattle.calvin_types.specs.Deeds.{Does};
 ghost use Rattle.calvin_order.specs.Configs.{Config};
-ghost use Rattle.calvin_acts.specs.NodeStates.{NodeState};
-ghost use Rattle.calvin_acts.specs.Handling.{NodeDeed};
-ghost use Rattle.calvin_acts.specs.Acting.{restart};
-ghost use Rattle.calvin_acts.specs.Durables.{Durable, durable_of, is_order_changed, from_durable};
+ghost use Rattle.calvin_node_acts.specs.NodeStates.{NodeState};
+ghost use Rattle.calvin_node_acts.specs.Handling.{NodeDeed};
+ghost use Rattle.calvin_node_acts.specs.Acting.{restart};
+ghost use Rattle.calvin_node_acts.specs.Durables.{Durable, durable_of, is_order_changed, from_durable};
 ghost use Rattle.calvin_world.specs.declared.event.Event.{Event};
 ghost use Rattle.calvin_world.specs.declared.event.Outcome.{Outcome};
 ghost use Rattle.calvin_world.specs.Worlds.{WorldState, opening, Leads};

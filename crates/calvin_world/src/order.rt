@@ -5,7 +5,7 @@ ghost use Rattle.calvin_types.specs.declared.txn.Txn.{Txn};
 ghost use Rattle.calvin_app.specs.Meaning.{Meaning};
 ghost use Rattle.calvin_order.specs.Configs.{Config, woven};
 ghost use Rattle.calvin_order.specs.Merged.{Assignment, joined};
-ghost use Rattle.calvin_acts.specs.Durables.{is_order_changed};
+ghost use Rattle.calvin_node_acts.specs.Durables.{is_order_changed};
 ghost use Rattle.calvin_world.specs.Promises.{rows_after, with_woven};
 
 /// A woven epoch is a permutation of its batches: each request stands in it as often as in them. So it is as long, and has each

@@ -1,21 +1,22 @@
 //! The world in code.
 ghost use Rattle.std.specs.Prelude.{◌≡◌, ℕ, ◌<◌, ◌*◌, ◌/◌, ◌%◌, length, map, IfOk, OnErr, IsOkUnless, MatchOption, None, Some, slice_get};
 ghost use Rattle.calvin_order.specs.Configs.{config_of};
-ghost use Rattle.calvin_acts.specs.Running.{Running};
+ghost use Rattle.calvin_node_acts.specs.Running.{Running};
 ghost use Rattle.calvin_world.specs.declared.event.Event.TheVariants.{At, Deliver};
 ghost use Rattle.calvin_world.specs.Histories.{LeadsOn, StaysChosen, EverStays, WasSubmitted, SubmittedBefore, StandsInTime, StandsLater};
+ghost use Rattle.calvin_world.specs.Jobs.{job_of, FinishedWith};
 ghost use Rattle.calvin_world.specs.Promises.{Agrees, IsSerial, PointsAreSerial, StandAlike};
 ghost use Rattle.calvin_world.specs.RunningWorlds.{IsReached};
 ghost use Rattle.calvin_world.specs.SettledWorlds.{settled_world, outcome_of, SettledStep, SettledLeads};
 ghost use Rattle.calvin_world.specs.Worlds.{WorldState, index_of, node_at, peek, opening};
 
 use crate::event::{Event, Outcome};
-use calvin_app::App;
+use calvin_app::{App, Computed, Job};
 use calvin_lock::{Locks, QueueLocks};
 use calvin_node::{Act, Node};
-use calvin_packets::{Address, Outbox, Packet};
+use calvin_node_packets::{Address, Outbox, Packet};
 use calvin_store::{ColdRows, Rows};
-use calvin_types::{Config, Fault, Key, NodeId};
+use calvin_types::{Config, Fault, Key, NodeId, Place};
 use std::alloc::Global;
 use std::marker::Model;
 
@@ -167,6 +168,29 @@ impl<A: App + Drop, L: Locks + Drop, S: Rows<A::Row> + Drop> World<A, L, S> {
             outcomes.push_reserved(outcome_of(self.step(event)));
         }
         Ok(outcomes)
+    }
+
+    /// What is to be run at a place of a node, by whoever. Refused with `NoNode` where the node isn't there, else as
+    /// `Node::job` is.
+    pub fn job(&self, id: NodeId, place: Place) -> Result<Job<A::Args, A::Row>, Fault>
+        ensures { result ≡ job_of self.now id place }
+    {
+        let Some(at) = self.index(id) else {
+            return Err(Fault::NoNode);
+        };
+        self.nodes[at].job(place)
+    }
+
+    /// Takes what came of a node's job: the event `Finish` of its place. Refused with `NoNode` where the node isn't there, with
+    /// `NotCollected` where no job is due at the place, with `StaleJob` where another one is, else with `OutOfMemory` where a
+    /// growth was refused. Where it is refused nothing changed.
+    pub fn finish_with(&mut self, id: NodeId, computed: &Computed<A>) -> Result<(), Fault>
+        ensures { FinishedWith A.meaning self.old id computed.now.job result self.new }
+    {
+        let Some(at) = self.index(id) else {
+            return Err(Fault::NoNode);
+        };
+        self.nodes[at].take_computed(computed, &mut self.packets)
     }
 
     /// One of a node's own events.

@@ -1,9 +1,9 @@
 //! Events and scripts as they are read.
 use crate::checks::{holds, same};
 use calvin_app::KvRequest;
-use calvin_events::{EventScript, ListedEvent, event_script_of};
 use calvin_node::Act;
 use calvin_script::{Document, Kept};
+use calvin_script_events::{EventScript, ListedEvent, event_script_of};
 use calvin_types::{Fault, Key, NodeId, Place, Slot};
 use calvin_world::Event;
 use std::alloc::Global;
@@ -168,7 +168,7 @@ fn delays_and_first_woven_epochs(rt: HostRuntime) -> Result<(), Fail> {
         let script = with_members(rt.alloc(), members)??;
         same(
             &rt,
-            (members, script.delay, script.woven_from),
+            (members, script.config.delay, script.config.woven_from),
             (members, delay, woven_from),
         );
     }
@@ -183,7 +183,11 @@ fn the_other_members(rt: HostRuntime) -> Result<(), Fail> {
     let script = with_members(alloc, members)??;
     same(
         &rt,
-        (script.partitions, script.replicas, script.events.len()),
+        (
+            script.config.partitions,
+            script.config.replicas,
+            script.events.len(),
+        ),
         (16, 7, 2),
     );
     let texts = script.expect.ok_or(Fault::BadScript)?;

@@ -2,9 +2,9 @@
 use crate::checks::{holds, same};
 use calvin_app::Kv;
 use calvin_edge::{MemorySink, MemorySource};
-use calvin_packets::Content;
-use calvin_schedule::{Restarts, Schedule};
+use calvin_node_packets::Content;
 use calvin_sim::{Simulated, sim};
+use calvin_sim_events::{Restarts, Schedule};
 use calvin_store::Rows;
 use calvin_types::{Key, NodeId, Place};
 use calvin_world::StoreWorld;

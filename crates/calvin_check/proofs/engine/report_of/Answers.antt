@@ -1,10 +1,10 @@
 -- A packet fits in memory; and what is told is told of the world that the events lead to.
 use denote.Memory.{lone}
-use Rattle.std.proofs.Common.{false, map, ap, subst, ◌∙◌, None}
+use Rattle.std.proofs.Common.{true, map, ap, subst, ◌∙◌, None}
 use Rattle.std.specs.Prelude.{option_map, string_bytes}
-use Rattle.calvin_world.specs.RunningWorlds.{store_config}
-use Rattle.calvin_packets.proofs.PacketSizes.{packet_of}
-use Rattle.calvin_events.specs.EventForms.{event_of}
+use Rattle.calvin_order.specs.Configs.{config_of}
+use Rattle.calvin_node_packets.proofs.PacketSizes.{packet_of}
+use Rattle.calvin_script_events.specs.EventForms.{event_of}
 use Rattle.calvin_world.specs.SettledWorlds.{SettledLeads}
 use Rattle.calvin_check.specs.Checks.{are_expected}
 use Rattle.calvin_check.proofs.Telling.{told_text, told_lines}
@@ -29,7 +29,7 @@ returns-clause-told g c =
     let world = c.in_ok-world.world in
     let after = c.run_events.new.world in
     let show = g.A.Reply.Printed.printed in
-    let config = store_config script.partitions script.replicas script.delay script.woven_from in
+    let config = config_of script.config true true in
     let events = map event_of script.events.items in
     let leads = subst (λ es. SettledLeads g.A.App.meaning world (map event_of es) led.0 after) c.deref.ensures.value led.1 in (
       told_text g.A.App.meaning show config world c.in_ok-world.ensures.ok events led.0 after leads led.2

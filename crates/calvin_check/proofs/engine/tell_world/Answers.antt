@@ -4,7 +4,7 @@ use Rattle.std.proofs.Common.{◌≡◌, ◌∷◌, [], ◌++◌, Some, map, ap,
 use Rattle.std.specs.Prelude.{IfOk, option_map, string_bytes}
 use Rattle.std.specs.FinMap.{entries}
 use Rattle.calvin_text.specs.Texts.{line, finished_at}
-use Rattle.calvin_packets.proofs.PacketSizes.{packet_of}
+use Rattle.calvin_node_packets.proofs.PacketSizes.{packet_of}
 use Rattle.calvin_report.specs.declared.replies.Epochs.TheVariants.{All}
 use Rattle.calvin_report.specs.Replies.{replied, of_epochs, reply_lines}
 use Rattle.calvin_check.specs.Checks.{are_lines, are_expected, answer_lines}

@@ -1,7 +1,7 @@
 -- Each event goes on.
 use Rattle.std.proofs.Common.{◌<◌, ◌≤◌, ℕ, map, rules, sym, ap, subst, ◌∙◌}
 use Rattle.std.proofs.lemmas.List.{length-map, get_or-map}
-use Rattle.calvin_events.specs.EventForms.{event_of}
+use Rattle.calvin_script_events.specs.EventForms.{event_of}
 use Rattle.calvin_check.proofs.Steps.{begins, goes_on, ends}
 use Rattle.calvin_check.proofs.running.run_events.Goals as goal
 

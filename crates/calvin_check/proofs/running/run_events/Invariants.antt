@@ -1,6 +1,6 @@
 -- The events so far went on, and their lines are there.
 use Rattle.std.proofs.Common.{map}
-use Rattle.calvin_events.specs.EventForms.{event_of}
+use Rattle.calvin_script_events.specs.EventForms.{event_of}
 use Rattle.calvin_check.proofs.Steps.{Goes}
 use Rattle.calvin_check.proofs.running.run_events.Given as goal
 

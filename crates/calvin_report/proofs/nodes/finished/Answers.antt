@@ -1,8 +1,8 @@
 -- Node by node.
 use Rattle.std.proofs.Common.{List, ap, ◌∙◌, map}
 use Rattle.std.proofs.lemmas.List.{take_all}
-use Rattle.calvin_acts.specs.NodeStates.{NodeState}
-use Rattle.calvin_acts.specs.Running.{Running}
+use Rattle.calvin_node_acts.specs.NodeStates.{NodeState}
+use Rattle.calvin_node_acts.specs.Running.{Running}
 use Rattle.calvin_report.specs.Reports.{last_standing, lesser, least_with, least}
 use Rattle.calvin_report.proofs.Least.{next_least, least_of}
 use Rattle.calvin_report.proofs.nodes.finished.Goals as goal

@@ -1,5 +1,5 @@
 use Rattle.std.proofs.Common.{◌≡◌, take, map}
-use Rattle.calvin_acts.specs.Running.{Running}
+use Rattle.calvin_node_acts.specs.Running.{Running}
 use Rattle.calvin_report.specs.Reports.{last_standing, least_with}
 use Rattle.calvin_report.proofs.nodes.finished.Given as goal
 

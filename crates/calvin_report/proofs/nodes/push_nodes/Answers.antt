@@ -3,7 +3,7 @@ use Rattle.std.proofs.Common.{◌++◌, List, sym, ap, ◌∙◌}
 use Rattle.std.specs.List.{flat_map}
 use Rattle.std.proofs.lemmas.List.{take_all}
 use Rattle.std.proofs.lemmas.List.Folds.{flat_map-map}
-use Rattle.calvin_acts.specs.Running.{Running}
+use Rattle.calvin_node_acts.specs.Running.{Running}
 use Rattle.calvin_report.specs.Reports.{line_of}
 use Rattle.calvin_report.proofs.NodeLines.{next_line}
 use Rattle.calvin_report.proofs.nodes.push_nodes.Goals as goal

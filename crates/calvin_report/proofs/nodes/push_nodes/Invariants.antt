@@ -1,6 +1,6 @@
 use Rattle.std.proofs.Common.{◌≡◌, ◌++◌, take}
 use Rattle.std.specs.List.{flat_map}
-use Rattle.calvin_acts.specs.Running.{Running}
+use Rattle.calvin_node_acts.specs.Running.{Running}
 use Rattle.calvin_report.specs.Reports.{line_of}
 use Rattle.calvin_report.proofs.nodes.push_nodes.Given as goal
 

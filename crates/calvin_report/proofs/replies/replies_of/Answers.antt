@@ -6,7 +6,7 @@ use Rattle.std.proofs.lemmas.List.{take_all}
 use Rattle.calvin_types.specs.declared.place.Place.{Place}
 use Rattle.calvin_types.specs.declared.place.RequestId.{RequestId}
 use Rattle.calvin_app.specs.declared.answer.Answer.{Answer}
-use Rattle.calvin_packets.specs.declared.packet.Packet.{Packet}
+use Rattle.calvin_node_packets.specs.declared.packet.Packet.{Packet}
 use Rattle.calvin_report.specs.FirstPut.{put_first}
 use Rattle.calvin_report.specs.Replies.{replied}
 use Rattle.calvin_report.proofs.ByPlace.{entries_empty, reply_more, silent_more, no_reply}

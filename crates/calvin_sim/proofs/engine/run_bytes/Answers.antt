@@ -1,23 +1,43 @@
-use Rattle.std.proofs.Common.{◌≡◌, Ok, ap, sym, ◌∙◌}
-use Rattle.calvin_script.specs.Reading.{and_then, json}
 use Rattle.calvin_script.specs.KvOperations.{kv_grammar}
 use Rattle.calvin_script.specs.StockOperations.{stock_grammar}
-use Rattle.calvin_sim.specs.Engine.{fitting, fitting_in}
-use Rattle.calvin_sim.specs.declared.engine.Told.{Told}
-use Rattle.calvin_sim.specs.declared.engine.Simulated.TheVariants.{Kv, Stock}
-use Rattle.calvin_sim.proofs.Runs.{kv_fits, stock_fits, told_reads}
+use Rattle.calvin_script.specs.OnceOperations.{once_grammar}
+use Rattle.calvin_script.specs.Scripts.{contents}
+use Rattle.calvin_sim.proofs.Runs.{kv_is, stock_is, once_is}
+use Rattle.calvin_sim.proofs.Taken.{from_taken}
 use Rattle.calvin_sim.proofs.engine.run_bytes.Goals as goal
 
-pub returns-in-Some-clause-fits : goal.returns-in-Some-clause-fits
-returns-in-Some-clause-fits c =
-    let run = c.in-Some.ensures.run in
-    told_reads (λ r. record { world = Kv r.0; text = r.1 }) c.in-Some.run' c.told_of_kv.result c.told_of_kv.ensures
-    (and_then (json c.args.bytes.items) fitting_in) (fitting run.0) (kv_fits c.args.bytes.items run.0 run.1) run.3
+pub run_script-requires : goal.run_script-requires
+run_script-requires c =
+    let bytes = c.args.bytes.items in
+    let script = c.in-Kv.script in
+    record { taken = from_taken kv_grammar bytes (contents script) (kv_is bytes c.in_ok-script.field-0 script c.in_ok-script.ensures c.in-Kv.is) }
 
-pub returns-in-Some-run_usual-clause-fits : goal.returns-in-Some-run_usual-clause-fits
-returns-in-Some-run_usual-clause-fits c =
-    let kept : c.run_usual.new.bytes ≡ c.args.bytes = c.run_usual.ensures.kept c.in_default.is in
-    let run = c.in-Some-run_usual.ensures.run in
-    let same = ap (λ b. and_then (json b.items) fitting_in) kept in
-    told_reads (λ r. record { world = Stock r.0; text = r.1 }) c.in-Some-run_usual.run' c.told_of_stock.result c.told_of_stock.ensures
-    (and_then (json c.args.bytes.items) fitting_in) (fitting run.0) (sym same ∙ stock_fits c.run_usual.new.bytes.items run.0 run.1) run.3
+pub returns-in_ok-world-in-Kv-clause-told : goal.returns-in_ok-world-in-Kv-clause-told
+returns-in_ok-world-in-Kv-clause-told c =
+    let bytes = c.args.bytes.items in
+    let script = c.in-Kv.script in
+    c.in_ok-world-in-Kv.ensures.run bytes (kv_is bytes c.in_ok-script.field-0 script c.in_ok-script.ensures c.in-Kv.is)
+
+pub run_script-requires-in-Stock : goal.run_script-requires-in-Stock
+run_script-requires-in-Stock c =
+    let bytes = c.args.bytes.items in
+    let script = c.in-Stock.script in
+    record { taken = from_taken stock_grammar bytes (contents script) (stock_is bytes c.in_ok-script.field-0 script c.in_ok-script.ensures c.in-Stock.is) }
+
+pub returns-in_ok-world-in-Stock-clause-told : goal.returns-in_ok-world-in-Stock-clause-told
+returns-in_ok-world-in-Stock-clause-told c =
+    let bytes = c.args.bytes.items in
+    let script = c.in-Stock.script in
+    c.in_ok-world-in-Stock.ensures.run bytes (stock_is bytes c.in_ok-script.field-0 script c.in_ok-script.ensures c.in-Stock.is)
+
+pub run_script-requires-in-Once : goal.run_script-requires-in-Once
+run_script-requires-in-Once c =
+    let bytes = c.args.bytes.items in
+    let script = c.in-Once.script in
+    record { taken = from_taken once_grammar bytes (contents script) (once_is bytes c.in_ok-script.field-0 script c.in_ok-script.ensures c.in-Once.is) }
+
+pub returns-in_ok-world-in-Once-clause-told : goal.returns-in_ok-world-in-Once-clause-told
+returns-in_ok-world-in-Once-clause-told c =
+    let bytes = c.args.bytes.items in
+    let script = c.in-Once.script in
+    c.in_ok-world-in-Once.ensures.run bytes (once_is bytes c.in_ok-script.field-0 script c.in_ok-script.ensures c.in-Once.is)

@@ -1,6 +1,6 @@
 use Rattle.std.proofs.Common.{subst}
 use Rattle.calvin_script.specs.Scripts.{contents}
-use Rattle.calvin_schedule.proofs.Leading.{quiet_then}
+use Rattle.calvin_sim_events.proofs.Leading.{quiet_then}
 use Rattle.calvin_sim.specs.Simulations.{submissions, AllDone}
 use Rattle.calvin_sim.proofs.simulation.play.Goals as goal
 

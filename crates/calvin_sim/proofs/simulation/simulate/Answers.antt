@@ -1,5 +1,5 @@
 use denote.Memory.{lone}
-use Rattle.calvin_packets.proofs.PacketSizes.{packet_of}
+use Rattle.calvin_node_packets.proofs.PacketSizes.{packet_of}
 use Rattle.calvin_sim.proofs.simulation.simulate.Goals as goal
 
 pub drop-world-inside-requires-in-Err-2-room-T-Destruct :

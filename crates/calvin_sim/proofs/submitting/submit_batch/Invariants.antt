@@ -1,5 +1,5 @@
 use Rattle.std.proofs.Common.{map, take}
-use Rattle.calvin_acts.specs.declared.act.Act.TheVariants.{Submit}
+use Rattle.calvin_node_acts.specs.declared.act.Act.TheVariants.{Submit}
 use Rattle.calvin_world.specs.declared.event.Event.TheVariants.{At}
 use Rattle.calvin_sim.specs.Simulations.{sequencer_of, AllDone}
 use Rattle.calvin_sim.proofs.submitting.submit_batch.Given as goal

@@ -1,7 +1,7 @@
 use denote.Memory.{lone}
-use Rattle.calvin_packets.proofs.PacketSizes.{packet_of}
+use Rattle.calvin_node_packets.proofs.PacketSizes.{packet_of}
 use Rattle.std.proofs.Common.{false, ◌++◌, ◌∙◌, None}
-use Rattle.calvin_world.specs.RunningWorlds.{store_config}
+use Rattle.calvin_order.specs.Configs.{store_config}
 use Rattle.calvin_script.specs.Scripts.{contents}
 use Rattle.calvin_sim.proofs.Leading.{simulation_leads}
 use Rattle.calvin_sim.proofs.telling.simulate_and_tell.Goals as goal

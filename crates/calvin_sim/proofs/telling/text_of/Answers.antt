@@ -1,7 +1,7 @@
 use denote.Memory.{lone}
 use Rattle.std.proofs.Common.{◌++◌, ap, ◌∙◌}
 use Rattle.std.specs.FinMap.{entries}
-use Rattle.calvin_packets.proofs.PacketSizes.{packet_of}
+use Rattle.calvin_node_packets.proofs.PacketSizes.{packet_of}
 use Rattle.calvin_report.specs.declared.replies.Epochs.TheVariants.{UpTo}
 use Rattle.calvin_report.specs.Replies.{replied, of_epochs, reply_lines}
 use Rattle.calvin_text.specs.Texts.{finished_at}

@@ -1,9 +1,9 @@
 use Rattle.std.proofs.Common.{true, false, sym, subst}
-use Rattle.calvin_acts.specs.declared.act.Act.TheVariants.{Merge, Lock, Restart}
-use Rattle.calvin_acts.specs.Acting as acting
-use Rattle.calvin_acts.specs.Growing.{act_grows}
-use Rattle.calvin_acts.specs.Running.{NodeDid}
-use Rattle.calvin_acts.proofs.Settling.{quiet}
+use Rattle.calvin_node_acts.specs.declared.act.Act.TheVariants.{Merge, Lock, Restart}
+use Rattle.calvin_node_acts.specs.Acting as acting
+use Rattle.calvin_node_acts.specs.Growing.{act_grows}
+use Rattle.calvin_node_acts.specs.Running.{NodeDid}
+use Rattle.calvin_node_acts.proofs.Settling.{quiet}
 use Rattle.calvin_node.proofs.node.Node.act.Goals as goal
 
 pub returns-in-Submit : goal.returns-in-Submit

@@ -1,7 +1,7 @@
 use Rattle.std.proofs.Common.{true, subst}
-use Rattle.calvin_acts.specs.Acting as acting
-use Rattle.calvin_acts.specs.Layers.{rest_of}
-use Rattle.calvin_acts.specs.Running.{NodeDid}
+use Rattle.calvin_node_acts.specs.Acting as acting
+use Rattle.calvin_node_acts.specs.Layers.{rest_of}
+use Rattle.calvin_node_acts.specs.Running.{NodeDid}
 use Rattle.calvin_node.proofs.node.Node.ask_batch.Goals as goal
 
 pub returns : goal.returns

@@ -1,5 +1,5 @@
 use denote.Memory.{lone}
-use Rattle.calvin_packets.proofs.PacketSizes.{content_of}
+use Rattle.calvin_node_packets.proofs.PacketSizes.{content_of}
 use Rattle.calvin_node.proofs.node.Node.ask_reads.Goals as goal
 
 pub post_to_each-requires : goal.post_to_each-requires

@@ -4,8 +4,8 @@ use Rattle.std.specs.Prelude.{◌==◌}
 use Rattle.std.specs.List.{filter, range_with_len}
 use Rattle.calvin_sched.specs.Keeping.{awaits_at}
 use Rattle.calvin_sched.specs.Scheduling.{turn_at}
-use Rattle.calvin_acts.specs.NodeStates.{site_of}
-use Rattle.calvin_acts.proofs.Asks.{awaited_is}
+use Rattle.calvin_node_acts.specs.NodeStates.{site_of}
+use Rattle.calvin_node_acts.proofs.Asks.{awaited_is}
 use Rattle.calvin_node.proofs.node.Node.awaited_from.Goals as goal
 use Rattle.calvin_node.proofs.node.Node.awaited_from.Goals.{then-is_awaited, else-is_awaited}
 

@@ -3,7 +3,7 @@ use Rattle.std.specs.Prelude.{◌==◌}
 use Rattle.std.specs.List.{filter, range_with_len}
 use Rattle.calvin_sched.specs.Keeping.{awaits_at}
 use Rattle.calvin_sched.specs.Scheduling.{turn_at}
-use Rattle.calvin_acts.specs.NodeStates.{site_of}
+use Rattle.calvin_node_acts.specs.NodeStates.{site_of}
 use Rattle.calvin_node.proofs.node.Node.awaited_from.Given as goal
 
 abbrev pub invariant-loop-other : goal.invariant-loop-other

@@ -5,18 +5,18 @@ use Rattle.calvin_sched.specs.Progress.{left}
 use Rattle.calvin_types.specs.Participants.{site}
 use Rattle.calvin_sched.specs.Scheduling.{turn_at, is_read_here, other_active}
 use Rattle.calvin_sched.specs.Steps as steps
-use Rattle.calvin_acts.specs.declared.act.Act.TheVariants.{Begin}
-use Rattle.calvin_packets.specs.declared.packet.Content.TheVariants.{Reads}
-use Rattle.calvin_acts.specs.Acting as acting
-use Rattle.calvin_acts.specs.Growing.{act_grows}
-use Rattle.calvin_packets.specs.Packets.{to_each}
-use Rattle.calvin_acts.specs.NodeStates.{site_of}
-use Rattle.calvin_acts.specs.Layers.{rest_of, state_of}
+use Rattle.calvin_node_acts.specs.declared.act.Act.TheVariants.{Begin}
+use Rattle.calvin_node_packets.specs.declared.packet.Content.TheVariants.{Reads}
+use Rattle.calvin_node_acts.specs.Acting as acting
+use Rattle.calvin_node_acts.specs.Growing.{act_grows}
+use Rattle.calvin_node_packets.specs.Packets.{to_each}
+use Rattle.calvin_node_acts.specs.NodeStates.{site_of}
+use Rattle.calvin_node_acts.specs.Layers.{rest_of, state_of}
 use Rattle.calvin_order.specs.Configs.{over}
-use Rattle.calvin_acts.specs.Running.{NodeDid}
+use Rattle.calvin_node_acts.specs.Running.{NodeDid}
 use Rattle.calvin_sched.proofs.Begins.{has_begun}
-use Rattle.calvin_acts.proofs.Settling.{running, left_then}
-use Rattle.calvin_acts.proofs.Beginning.{begun}
+use Rattle.calvin_node_acts.proofs.Settling.{running, left_then}
+use Rattle.calvin_node_acts.proofs.Beginning.{begun}
 use Rattle.calvin_node.proofs.node.Node.begin.Goals as goal
 
 pub returns-then-not-reads_here : goal.returns-then-not-reads_here

@@ -1,6 +1,6 @@
 use Rattle.std.proofs.Common.{subst}
 use Rattle.calvin_sched.specs.Keeping.{IsFirstReadyHere}
-use Rattle.calvin_acts.specs.NodeStates.{site_of}
+use Rattle.calvin_node_acts.specs.NodeStates.{site_of}
 use Rattle.calvin_node.proofs.node.Node.first_ready.Goals as goal
 
 pub returns : goal.returns

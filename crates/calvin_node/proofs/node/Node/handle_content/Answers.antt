@@ -2,13 +2,13 @@ use Rattle.std.proofs.Common.{true, false, Err, refl, sym, subst}
 use Rattle.std.specs.FinMap as map
 use Rattle.calvin_types.specs.declared.fault.Fault.TheVariants.{NotMine}
 use Rattle.calvin_sched.specs.Steps as steps
-use Rattle.calvin_packets.specs.declared.packet.Content.TheVariants.{Warm}
-use Rattle.calvin_acts.specs.Growing.{content_grows}
-use Rattle.calvin_acts.specs.Handling as handling
-use Rattle.calvin_acts.specs.NodeStates.{site_of}
-use Rattle.calvin_acts.specs.Layers.{rest_of, node_of}
-use Rattle.calvin_acts.specs.Running.{NodeDid}
-use Rattle.calvin_acts.proofs.Settling.{quiet, still_node}
+use Rattle.calvin_node_packets.specs.declared.packet.Content.TheVariants.{Warm}
+use Rattle.calvin_node_acts.specs.Growing.{content_grows}
+use Rattle.calvin_node_acts.specs.Handling as handling
+use Rattle.calvin_node_acts.specs.NodeStates.{site_of}
+use Rattle.calvin_node_acts.specs.Layers.{rest_of, node_of}
+use Rattle.calvin_node_acts.specs.Running.{NodeDid}
+use Rattle.calvin_node_acts.proofs.Settling.{quiet, still_node}
 use Rattle.calvin_node.proofs.node.Node.handle_content.Goals as goal
 
 pub invariant_of-self : goal.invariant_of-self

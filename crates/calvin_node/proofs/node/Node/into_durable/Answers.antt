@@ -1,6 +1,6 @@
 use Rattle.std.proofs.Common.{◌∙◌}
-use Rattle.calvin_acts.specs.Durables.{durable_of}
-use Rattle.calvin_acts.specs.Running.{kept_epochs, kept_rows}
+use Rattle.calvin_node_acts.specs.Durables.{durable_of}
+use Rattle.calvin_node_acts.specs.Running.{kept_epochs, kept_rows}
 use Rattle.calvin_node.proofs.node.Node.into_durable.Goals as goal
 
 pub returns : goal.returns

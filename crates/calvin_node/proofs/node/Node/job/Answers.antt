@@ -1,6 +1,6 @@
 use Rattle.std.proofs.Common.{◌∙◌}
 use Rattle.calvin_sched.specs.Steps as steps
-use Rattle.calvin_acts.specs.NodeStates.{site_of}
+use Rattle.calvin_node_acts.specs.NodeStates.{site_of}
 use Rattle.calvin_node.proofs.node.Node.job.Goals as goal
 
 pub returns : goal.returns

@@ -4,13 +4,13 @@ use Rattle.calvin_types.specs.Participants.{site, has_local_key}
 use Rattle.calvin_types.specs.Deeds.{Did}
 use Rattle.calvin_sched.specs.Progress.{left}
 use Rattle.calvin_sched.specs.Steps as steps
-use Rattle.calvin_acts.specs.declared.act.Act.TheVariants.{Lock}
-use Rattle.calvin_acts.specs.Acting as acting
-use Rattle.calvin_acts.specs.Growing.{act_grows}
-use Rattle.calvin_acts.specs.Layers.{rest_of, state_of}
+use Rattle.calvin_node_acts.specs.declared.act.Act.TheVariants.{Lock}
+use Rattle.calvin_node_acts.specs.Acting as acting
+use Rattle.calvin_node_acts.specs.Growing.{act_grows}
+use Rattle.calvin_node_acts.specs.Layers.{rest_of, state_of}
 use Rattle.calvin_order.specs.Configs.{over}
-use Rattle.calvin_acts.specs.Running.{NodeDid}
-use Rattle.calvin_acts.proofs.Settling.{running, with_steps, left_again, locked, not_locked, first_and_rest}
+use Rattle.calvin_node_acts.specs.Running.{NodeDid}
+use Rattle.calvin_node_acts.proofs.Settling.{running, with_steps, left_again, locked, not_locked, first_and_rest}
 use Rattle.calvin_node.proofs.node.Node.lock_next.Goals as goal
 
 pub returns-in_err-admit : goal.returns-in_err-admit

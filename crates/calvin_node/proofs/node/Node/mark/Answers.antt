@@ -2,11 +2,11 @@ use Rattle.std.proofs.Common.{◌≡◌, ◌+◌, suc, [], false, sym, ap, subst
 use Rattle.calvin_types.specs.Deeds.{Did}
 use Rattle.calvin_sched.specs.Progress.{left}
 use Rattle.calvin_sched.specs.Standing as standing
-use Rattle.calvin_acts.specs.Acting as acting
-use Rattle.calvin_acts.specs.Layers.{rest_of, state_of}
+use Rattle.calvin_node_acts.specs.Acting as acting
+use Rattle.calvin_node_acts.specs.Layers.{rest_of, state_of}
 use Rattle.calvin_order.specs.Configs.{over}
-use Rattle.calvin_acts.specs.Running.{NodeDid}
-use Rattle.calvin_acts.proofs.Settling.{running, left_again, scheduled}
+use Rattle.calvin_node_acts.specs.Running.{NodeDid}
+use Rattle.calvin_node_acts.proofs.Settling.{running, left_again, scheduled}
 use Rattle.calvin_node.proofs.node.Node.mark.Goals as goal
 
 pub returns : goal.returns

@@ -5,14 +5,14 @@ use Rattle.calvin_types.specs.Deeds.{Did}
 use Rattle.calvin_types.specs.Participants.{has_local_key}
 use Rattle.calvin_sched.specs.Progress.{merge}
 use Rattle.calvin_types.specs.declared.fault.Fault.TheVariants.{OutOfMemory}
-use Rattle.calvin_acts.specs.declared.act.Act.TheVariants.{Merge}
-use Rattle.calvin_acts.specs.Acting as acting
-use Rattle.calvin_acts.specs.Growing.{act_grows, is_some_request}
-use Rattle.calvin_acts.specs.Layers.{IsNode, rest_of, state_of, node_of}
+use Rattle.calvin_node_acts.specs.declared.act.Act.TheVariants.{Merge}
+use Rattle.calvin_node_acts.specs.Acting as acting
+use Rattle.calvin_node_acts.specs.Growing.{act_grows, is_some_request}
+use Rattle.calvin_node_acts.specs.Layers.{IsNode, rest_of, state_of, node_of}
 use Rattle.calvin_order.specs.Configs.{over}
-use Rattle.calvin_acts.specs.Running.{NodeDid}
-use Rattle.calvin_acts.proofs.Settling.{running}
-use Rattle.calvin_acts.proofs.Merges.{complete_is, wanting, not_given, untold, merging, some_request}
+use Rattle.calvin_node_acts.specs.Running.{NodeDid}
+use Rattle.calvin_node_acts.proofs.Settling.{running}
+use Rattle.calvin_node_acts.proofs.Merges.{complete_is, wanting, not_given, untold, merging, some_request}
 use Rattle.calvin_node.proofs.node.Node.merge.Goals as goal
 
 pub returns-in_err-requests : goal.returns-in_err-requests

@@ -1,5 +1,5 @@
 use denote.Memory.{lone}
-use Rattle.calvin_packets.proofs.PacketSizes.{packet_of}
+use Rattle.calvin_node_packets.proofs.PacketSizes.{packet_of}
 use Rattle.calvin_node.proofs.node.Node.on_ask_reads.Goals as goal
 
 pub push-requires : goal.push-requires

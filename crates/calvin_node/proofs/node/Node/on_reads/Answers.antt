@@ -1,12 +1,12 @@
 use Rattle.std.proofs.Common.{[], false, sym, ap, subst, ◌∙◌}
 use Rattle.calvin_sched.specs.Progress.{left}
 use Rattle.calvin_sched.specs.Steps as steps
-use Rattle.calvin_acts.specs.Handling as handling
-use Rattle.calvin_acts.specs.NodeStates.{site_of}
-use Rattle.calvin_acts.specs.Layers.{rest_of, state_of}
+use Rattle.calvin_node_acts.specs.Handling as handling
+use Rattle.calvin_node_acts.specs.NodeStates.{site_of}
+use Rattle.calvin_node_acts.specs.Layers.{rest_of, state_of}
 use Rattle.calvin_order.specs.Configs.{over}
-use Rattle.calvin_acts.specs.Running.{NodeDid}
-use Rattle.calvin_acts.proofs.Settling.{running, left_again, scheduled}
+use Rattle.calvin_node_acts.specs.Running.{NodeDid}
+use Rattle.calvin_node_acts.proofs.Settling.{running, left_again, scheduled}
 use Rattle.calvin_node.proofs.node.Node.on_reads.Goals as goal
 
 pub returns : goal.returns

@@ -2,12 +2,12 @@ use Rattle.std.proofs.Common.{[], ◌++◌, sym, ap, subst, ◌∙◌}
 use Rattle.calvin_types.specs.Deeds.{Does}
 use Rattle.calvin_sched.specs.Progress.{left}
 use Rattle.calvin_sched.specs.Standing as standing
-use Rattle.calvin_packets.specs.declared.packet.Content.TheVariants.{Warm}
-use Rattle.calvin_acts.specs.Handling as handling
-use Rattle.calvin_acts.specs.Layers.{rest_of, state_of}
+use Rattle.calvin_node_packets.specs.declared.packet.Content.TheVariants.{Warm}
+use Rattle.calvin_node_acts.specs.Handling as handling
+use Rattle.calvin_node_acts.specs.Layers.{rest_of, state_of}
 use Rattle.calvin_order.specs.Configs.{over}
-use Rattle.calvin_acts.specs.Running.{NodeDid}
-use Rattle.calvin_acts.proofs.Settling.{running, left_again, scheduled}
+use Rattle.calvin_node_acts.specs.Running.{NodeDid}
+use Rattle.calvin_node_acts.proofs.Settling.{running, left_again, scheduled}
 use Rattle.calvin_node.proofs.node.Node.on_warm.Goals as goal
 
 pub returns : goal.returns

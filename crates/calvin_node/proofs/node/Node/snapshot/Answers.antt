@@ -6,11 +6,11 @@ use Rattle.calvin_app.specs.Rows.{Rows}
 use Rattle.calvin_sched.specs.Keeping.{takes_effect}
 use Rattle.calvin_sched.specs.Progress.{left}
 use Rattle.calvin_sched.specs.Standing.{take_rows}
-use Rattle.calvin_acts.specs.Acting as acting
-use Rattle.calvin_acts.specs.Layers.{rest_of, state_of}
+use Rattle.calvin_node_acts.specs.Acting as acting
+use Rattle.calvin_node_acts.specs.Layers.{rest_of, state_of}
 use Rattle.calvin_order.specs.Configs.{over}
-use Rattle.calvin_acts.specs.Running.{NodeDid, kept_epochs}
-use Rattle.calvin_acts.proofs.Settling.{running, left_again, not_taken, taken}
+use Rattle.calvin_node_acts.specs.Running.{NodeDid, kept_epochs}
+use Rattle.calvin_node_acts.proofs.Settling.{running, left_again, not_taken, taken}
 use Rattle.calvin_node.proofs.node.Node.snapshot.Goals as goal
 
 pub returns-in_err-can_take : goal.returns-in_err-can_take

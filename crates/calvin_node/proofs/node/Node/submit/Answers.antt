@@ -1,8 +1,8 @@
 use Rattle.std.proofs.Common.{[], true, subst}
-use Rattle.calvin_acts.specs.Acting as acting
-use Rattle.calvin_acts.specs.Layers.{rest_of, node_of}
-use Rattle.calvin_acts.specs.Running.{NodeDid}
-use Rattle.calvin_acts.proofs.Settling.{still_node}
+use Rattle.calvin_node_acts.specs.Acting as acting
+use Rattle.calvin_node_acts.specs.Layers.{rest_of, node_of}
+use Rattle.calvin_node_acts.specs.Running.{NodeDid}
+use Rattle.calvin_node_acts.proofs.Settling.{still_node}
 use Rattle.calvin_node.proofs.node.Node.submit.Goals as goal
 
 pub invariant_of-self : goal.invariant_of-self

@@ -3,7 +3,7 @@ use Rattle.std.proofs.Common.{◌≡◌, ℕ, ◌<◌, length, Some, slice_get, 
 use Rattle.std.proofs.lemmas.List.{length-map}
 use Rattle.std.proofs.lemmas.Option.{slice_get-get_or}
 use Rattle.calvin_order.specs.Configs.{config_of}
-use Rattle.calvin_acts.specs.Running.{Running}
+use Rattle.calvin_node_acts.specs.Running.{Running}
 use Rattle.calvin_world.specs.declared.event.Event.TheVariants.{At}
 use Rattle.calvin_world.specs.RunningWorlds.{world_of, IsReached}
 use Rattle.calvin_world.specs.SettledWorlds.{outcome_of, SettledStep}

@@ -3,12 +3,12 @@ use denote.Memory.{lone}
 use Rattle.std.proofs.Common.{◌≡◌, ℕ, ◌<◌, length, None, Some, slice_get, slice_set, sym, ap, subst, ◌∙◌}
 use Rattle.std.proofs.lemmas.List.{length-map}
 use Rattle.std.proofs.lemmas.Option.{slice_get-get_or, slice_get_past}
-use Rattle.calvin_packets.proofs.PacketSizes.{packet_of}
+use Rattle.calvin_node_packets.proofs.PacketSizes.{packet_of}
 use Rattle.calvin_types.specs.declared.fault.Fault.TheVariants.{NoPacket}
-use Rattle.calvin_acts.specs.Growing.{content_grows}
-use Rattle.calvin_acts.specs.Handling.{handle}
+use Rattle.calvin_node_acts.specs.Growing.{content_grows}
+use Rattle.calvin_node_acts.specs.Handling.{handle}
 use Rattle.calvin_order.specs.Configs.{config_of}
-use Rattle.calvin_acts.specs.Running.{Running, NodeDid}
+use Rattle.calvin_node_acts.specs.Running.{Running, NodeDid}
 use Rattle.calvin_world.specs.declared.event.Outcome.TheVariants.{Refused}
 use Rattle.calvin_world.specs.declared.event.Event.TheVariants.{Deliver}
 use Rattle.calvin_world.specs.RunningWorlds.{world_of, IsOpened, IsReached}

@@ -1,7 +1,7 @@
 -- Where it stands is within the nodes.
 use Rattle.std.proofs.Common.{◌≡◌, ℕ, ◌+◌, ◌*◌, ◌<◌, cond, length, slice_get, map, None, refl, sym, subst, ◌∙◌}
 use Rattle.std.proofs.lemmas.List.{length-map}
-use Rattle.calvin_acts.specs.Running.{Running}
+use Rattle.calvin_node_acts.specs.Running.{Running}
 use Rattle.calvin_world.specs.Worlds.{index_of, node_at}
 use Rattle.calvin_world.proofs.InCode.{index_within, there_is}
 use Rattle.calvin_world.proofs.world.World.index.Goals as goal

@@ -1,0 +1,63 @@
+-- What nodes send each other and clients (Thomson et al. 2012, section 3.1: batches; section 3.2: rows that are read;
+-- section 4: rows that are to be in memory. "Paxos Made Simple", section 2: the synod's messages).
+use Rattle.std.specs.Prelude.{ℕ, Bool, false, ◌&&◌, not, ◌==◌, List, [], ◌∷◌, map, Option, Some, None}
+use Rattle.std.specs.List.{filter, range_with_len}
+use Rattle.calvin_types.specs.declared.place.NodeId.{NodeId}
+use Rattle.calvin_types.specs.declared.place.Slot.{Slot}
+use Rattle.calvin_types.specs.declared.txn.Txn.{Txn}
+use Rattle.calvin_types.specs.Participants.{site, has_local_key}
+use Rattle.calvin_lock.specs.Local.{local_sets}
+use Rattle.calvin_synod.specs.Cases.{Letters, Silent, ToOne, ToAll}
+use Rattle.calvin_order.specs.Merged.{Batch}
+use Rattle.calvin_node_packets.specs.declared.packet.Address.{Address}
+use Rattle.calvin_node_packets.specs.declared.packet.Address.TheVariants.{AtNode, AtClient}
+use Rattle.calvin_node_packets.specs.declared.packet.Content.{Content}
+use Rattle.calvin_node_packets.specs.declared.packet.Content.TheVariants.{Synod, Decided, Warm}
+use Rattle.calvin_node_packets.specs.declared.packet.Packet.{Packet}
+
+-- what is sent, and how many more packets are sure to find room
+pub record Outgoing (Args Row Reply : Type 0) : Type 0 where
+  pub packets : List (Packet Args Row Reply)
+  pub room : ℕ
+
+-- whether two names are of one node
+abbrev pub same_node : NodeId → NodeId → Bool
+same_node a b = (a.replica == b.replica) && (a.partition == b.partition)
+
+-- whether a packet is for a node
+abbrev pub is_for : Address → NodeId → Bool
+is_for (AtNode id) me = same_node id me
+is_for (AtClient client) me = false
+
+-- the other partitions, ascending
+abbrev pub others : ℕ → ℕ → List ℕ
+others parts p = filter (λ q. not (q == p)) (range_with_len 0 parts)
+
+module _ {Args : Type 0} where
+  -- the partitions that store a declared key
+  abbrev pub participants : ℕ → Txn Args → List ℕ
+  participants parts t = filter (λ p. has_local_key (site parts p) t) (range_with_len 0 parts)
+
+module _ {Args Row Reply : Type 0} where
+  -- each of these partitions of the own replica is to have the rows of its declared keys in memory
+  abbrev pub warm_packets : ℕ → NodeId → Txn Args → List ℕ → List (Packet Args Row Reply)
+  warm_packets parts me t ps = map (λ p. record { from = me; to = AtNode (record { replica = me.replica; partition = p }); content = Warm (local_sets (site parts p) t.sets) }) ps
+
+  -- the same to each of these partitions of a replica
+  abbrev pub to_each : NodeId → ℕ → Content Args Row Reply → List ℕ → List (Packet Args Row Reply)
+  to_each me replica content ps = map (λ p. record { from = me; to = AtNode (record { replica = replica; partition = p }); content = content }) ps
+
+  -- the same to each replica of the own group, ascending
+  abbrev pub to_replicas : ℕ → NodeId → Content Args Row Reply → List (Packet Args Row Reply)
+  to_replicas size me content = map (λ r. record { from = me; to = AtNode (record { replica = r; partition = me.partition }); content = content }) (range_with_len 0 size)
+
+  -- what a synod sends: to one or all replicas of its own group
+  abbrev pub synod_packets : ℕ → NodeId → Letters (Batch Args) → List (Packet Args Row Reply)
+  synod_packets size me Silent = []
+  synod_packets size me (ToOne r m) = record { from = me; to = AtNode (record { replica = r; partition = me.partition }); content = Synod m } ∷ []
+  synod_packets size me (ToAll m) = to_replicas size me (Synod m)
+
+  -- a batch that is decided here is told to the other nodes of the own replica
+  abbrev pub telling : ℕ → NodeId → Option (Slot × Batch Args) → List (Packet Args Row Reply)
+  telling parts me None = []
+  telling parts me (Some given) = to_each me me.replica (Decided given.0 given.1) (others parts me.partition)

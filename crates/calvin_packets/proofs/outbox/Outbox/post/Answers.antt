@@ -1,9 +1,0 @@
-use denote.Memory.{lone}
-use Rattle.calvin_packets.proofs.PacketSizes.{packet_of, content_of}
-use Rattle.calvin_packets.proofs.outbox.Outbox.post.Goals as goal
-
-pub push-requires : goal.push-requires
-push-requires g c = packet_of (lone g.row.A-Args.mir) (lone g.row.A-Row.mir) (lone g.row.A-Reply.mir) g.met.A.App.work_fits
-
-pub post_to_all-requires : goal.post_to_all-requires
-post_to_all-requires g c = content_of (lone g.row.A-Args.mir) (lone g.row.A-Row.mir) (lone g.row.A-Reply.mir) g.met.A.App.work_fits

@@ -1,6 +1,0 @@
-use Rattle.std.proofs.Common.{◌≡◌, ◌++◌}
-use Rattle.calvin_packets.specs.Packets.{to_replicas}
-use Rattle.calvin_packets.proofs.outbox.Outbox.post_to_all.Given as goal
-
-abbrev pub invariant-loop-replica : goal.invariant-loop-replica
-invariant-loop-replica g l = l.self.packets ≡ l.fn.self.packets ++ to_replicas l.replica l.from l.content

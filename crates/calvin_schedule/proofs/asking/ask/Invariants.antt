@@ -1,8 +1,0 @@
-use Rattle.calvin_schedule.specs.Quiet.{LeadsQuietly}
-use Rattle.calvin_schedule.proofs.asking.ask.Given as goal
-
-abbrev pub invariant-loop-epoch : goal.invariant-loop-epoch
-invariant-loop-epoch g l = LeadsQuietly g.A.App.meaning l.fn.world l.world
-
-abbrev pub invariant-loop-seat : goal.invariant-loop-seat
-invariant-loop-seat g l = LeadsQuietly g.A.App.meaning l.fn.world l.world

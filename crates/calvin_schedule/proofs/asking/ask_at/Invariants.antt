@@ -1,5 +1,0 @@
-use Rattle.calvin_schedule.specs.Quiet.{LeadsQuietly}
-use Rattle.calvin_schedule.proofs.asking.ask_at.Given as goal
-
-abbrev pub invariant-loop-epoch : goal.invariant-loop-epoch
-invariant-loop-epoch g l = LeadsQuietly g.A.App.meaning l.fn.world l.world

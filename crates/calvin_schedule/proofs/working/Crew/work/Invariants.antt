@@ -1,5 +1,0 @@
-use Rattle.calvin_schedule.specs.Quiet.{LeadsQuietly}
-use Rattle.calvin_schedule.proofs.working.Crew.work.Given as goal
-
-abbrev pub invariant-loop-seat : goal.invariant-loop-seat
-invariant-loop-seat g l = LeadsQuietly g.A.App.meaning l.fn.world l.world

@@ -1,6 +1,0 @@
-use Rattle.std.proofs.Common.{refl}
-use Rattle.calvin_serial.proofs.Usual.{text_reads}
-use Rattle.calvin_serial.proofs.engine.usual_text.Goals as goal
-
-pub returns : goal.returns
-returns g c = text_reads c.text_of-text.result _ _ refl c.text_of-text.ensures.text c.text_of-text.ensures.only

@@ -1,0 +1,8 @@
+use Rattle.calvin_sim_events.specs.Quiet.{LeadsQuietly}
+use Rattle.calvin_sim_events.proofs.asking.ask.Given as goal
+
+abbrev pub invariant-loop-epoch : goal.invariant-loop-epoch
+invariant-loop-epoch g l = LeadsQuietly g.A.App.meaning l.fn.world l.world
+
+abbrev pub invariant-loop-seat : goal.invariant-loop-seat
+invariant-loop-seat g l = LeadsQuietly g.A.App.meaning l.fn.world l.world

@@ -1,0 +1,5 @@
+use Rattle.calvin_sim_events.specs.Quiet.{LeadsQuietly}
+use Rattle.calvin_sim_events.proofs.asking.ask_at.Given as goal
+
+abbrev pub invariant-loop-epoch : goal.invariant-loop-epoch
+invariant-loop-epoch g l = LeadsQuietly g.A.App.meaning l.fn.world l.world

@@ -1,0 +1,5 @@
+use Rattle.calvin_sim_events.specs.Quiet.{LeadsQuietly}
+use Rattle.calvin_sim_events.proofs.working.Crew.work.Given as goal
+
+abbrev pub invariant-loop-seat : goal.invariant-loop-seat
+invariant-loop-seat g l = LeadsQuietly g.A.App.meaning l.fn.world l.world

@@ -1,0 +1,235 @@
+//! What brings the nodes on: packets are delivered as they are sent, and each node that one reached works on.
+ghost use Rattle.std.specs.Prelude.{◌≡◌, true, IsOkUnless};
+ghost use Rattle.calvin_sim_events.specs.Quiet.{is_quiet, LeadsQuietly};
+
+use crate::stepping::{addressee, happen, sent};
+use calvin_app::App;
+use calvin_node::Act;
+use calvin_types::{Config, Fault, NodeId, Place};
+use calvin_world::{Event, Outcome, StoreWorld};
+use std::alloc::Global;
+
+/// A node, and whether something reached it since it last worked.
+#[derive(Clone, Copy)]
+pub(crate) struct Seat {
+    pub id: NodeId,
+    is_woken: bool,
+}
+
+/// All nodes, replica by replica, and how many packets were delivered so far, one after another.
+#[derive(Drop)]
+pub(crate) struct Crew {
+    config: Config,
+    pub seats: Vec<Seat>,
+    delivered: usize,
+}
+
+impl Crew {
+    /// All nodes: nothing was delivered, and each is to work. Refused with `OutOfMemory` alone.
+    pub fn new(alloc: Global, config: &Config) -> Result<Crew, Fault>
+        ensures only { IsOkUnless result Fault.OutOfMemory }
+    {
+        let mut seats = Vec::new(alloc);
+        let number = config.replicas as usize * config.partitions as usize;
+        for i in 0..number {
+            seats.push(Seat {
+                id: id_at(config, i),
+                is_woken: true,
+            })?;
+        }
+        Ok(Crew {
+            config: *config,
+            seats,
+            delivered: 0,
+        })
+    }
+
+    /// A node is to work.
+    fn wake(&mut self, id: NodeId) {
+        let before = id.replica as usize * self.config.partitions as usize;
+        if let Some(seat) = self.seats.get_mut(before + id.partition as usize) {
+            seat.is_woken = true;
+        }
+    }
+
+    /// Delivers a packet to the node that it is for, which is to work if the packet took effect. Answers to clients stay.
+    #[tactic(auto, using(crate::proofs::Leading::quiet_here, crate::proofs::Leading::quiet_then))]
+    fn deliver<A: App + Drop>(
+        &mut self,
+        world: &mut StoreWorld<A>,
+        number: usize,
+    ) -> Result<(), Fault>
+        ensures quiet { LeadsQuietly A.meaning world.old world.new }
+        ensures only { IsOkUnless result Fault.OutOfMemory }
+    {
+        let Some(id) = addressee(world, number) else {
+            return Ok(());
+        };
+        if let Outcome::Done = happen(world, &Event::Deliver(number))? {
+            self.wake(id);
+        }
+        Ok(())
+    }
+
+    /// Delivers the packets that were sent so far and not delivered here yet.
+    #[tactic(auto, using(crate::proofs::Leading::quiet_here, crate::proofs::Leading::quiet_then))]
+    fn deliver_sent<A: App + Drop>(&mut self, world: &mut StoreWorld<A>) -> Result<(), Fault>
+        ensures quiet { LeadsQuietly A.meaning world.old world.new }
+        ensures only { IsOkUnless result Fault.OutOfMemory }
+    {
+        let end = sent(world);
+        for number in self.delivered..end {
+            self.deliver(world, number)?;
+        }
+        self.delivered = end;
+        Ok(())
+    }
+
+    /// Each node that is to work does, replica by replica; one that merged an epoch is to work again.
+    #[tactic(auto, using(crate::proofs::Leading::quiet_here, crate::proofs::Leading::quiet_then))]
+    fn work<A: App + Drop>(&mut self, world: &mut StoreWorld<A>) -> Result<(), Fault>
+        ensures quiet { LeadsQuietly A.meaning world.old world.new }
+        ensures only { IsOkUnless result Fault.OutOfMemory }
+    {
+        for seat in &mut self.seats {
+            if seat.is_woken {
+                seat.is_woken = work_at(world, seat.id)?;
+            }
+        }
+        Ok(())
+    }
+
+    /// Packets are delivered, and then the nodes work that they reached.
+    #[tactic(auto, using(crate::proofs::Leading::quiet_here, crate::proofs::Leading::quiet_then))]
+    fn turn<A: App + Drop>(&mut self, world: &mut StoreWorld<A>) -> Result<(), Fault>
+        ensures quiet { LeadsQuietly A.meaning world.old world.new }
+        ensures only { IsOkUnless result Fault.OutOfMemory }
+    {
+        self.deliver_sent(world)?;
+        self.work(world)
+    }
+
+    /// Whether nothing is left to do: no packet that wasn't delivered here, and no node that is to work.
+    fn is_idle<A: App + Drop>(&self, world: &StoreWorld<A>) -> bool {
+        for seat in &self.seats {
+            if seat.is_woken {
+                return false;
+            }
+        }
+        self.delivered >= sent(world)
+    }
+
+    /// Packets are delivered and nodes work until nothing is left to do. Each turn but the last delivers a packet or merges an
+    /// epoch, and of both there are fewer than 2^63.
+    #[tactic(auto, using(crate::proofs::Leading::quiet_here, crate::proofs::Leading::quiet_then))]
+    pub fn work_on<A: App + Drop>(&mut self, world: &mut StoreWorld<A>) -> Result<(), Fault>
+        ensures quiet { LeadsQuietly A.meaning world.old world.new }
+        ensures only { IsOkUnless result Fault.OutOfMemory }
+    {
+        for _ in 0..u64::MAX {
+            self.turn(world)?;
+            if self.is_idle(world) {
+                break;
+            }
+        }
+        Ok(())
+    }
+}
+
+/// The name of the node that stands at a place among all.
+fn id_at(config: &Config, at: usize) -> NodeId {
+    let partitions = config.partitions as usize;
+    NodeId {
+        replica: (at / partitions).min(255) as u8,
+        partition: (at % partitions).min(255) as u8,
+    }
+}
+
+/// A node merges the next epoch, if it is decided, and lets all that is merged ask for its locks. Says whether an epoch was
+/// merged.
+#[tactic(auto, using(crate::proofs::Leading::quiet_here, crate::proofs::Leading::quiet_then))]
+fn admit<A: App + Drop>(world: &mut StoreWorld<A>, id: NodeId) -> Result<bool, Fault>
+    ensures quiet { LeadsQuietly A.meaning world.old world.new }
+    ensures only { IsOkUnless result Fault.OutOfMemory }
+{
+    let merged = happen(world, &Event::At(id, Act::Merge))?;
+    repeat(world, &Event::At(id, Act::Lock))?;
+    Ok(merged == Outcome::Done)
+}
+
+/// A node merges and admits what it can of the next epoch; then what is ready runs. Says whether an epoch was merged: there may
+/// be another one.
+#[tactic(auto, using(crate::proofs::Leading::quiet_here, crate::proofs::Leading::quiet_then))]
+fn work_at<A: App + Drop>(world: &mut StoreWorld<A>, id: NodeId) -> Result<bool, Fault>
+    ensures quiet { LeadsQuietly A.meaning world.old world.new }
+    ensures only { IsOkUnless result Fault.OutOfMemory }
+{
+    let merged = admit(world, id)?;
+    run_ready(world, id)?;
+    Ok(merged)
+}
+
+/// An event happens again and again until it is refused, as it is once all that was decided is merged, or all that was
+/// merged has asked for its locks: so 2^64 times are enough.
+#[tactic(auto, using(crate::proofs::Leading::quiet_here, crate::proofs::Leading::quiet_then))]
+fn repeat<A: App + Drop>(world: &mut StoreWorld<A>, event: &Event<A::Args>) -> Result<(), Fault>
+    requires { is_quiet event.now ≡ true }
+    ensures quiet { LeadsQuietly A.meaning world.old world.new }
+    ensures only { IsOkUnless result Fault.OutOfMemory }
+{
+    for _ in 0..u64::MAX {
+        let Outcome::Done = happen(world, event)? else {
+            break;
+        };
+    }
+    Ok(())
+}
+
+/// The requests of a node that have their locks run, in the order of their places, up to the epoch of the first that
+/// awaits rows. A request that is done gives its locks to later ones only, so one time over them is enough; there are
+/// fewer than 2^64.
+#[tactic(auto, using(crate::proofs::Leading::quiet_here, crate::proofs::Leading::quiet_then))]
+fn run_ready<A: App + Drop>(world: &mut StoreWorld<A>, id: NodeId) -> Result<(), Fault>
+    ensures quiet { LeadsQuietly A.meaning world.old world.new }
+    ensures only { IsOkUnless result Fault.OutOfMemory }
+{
+    let mut after = None;
+    let mut last_epoch = u64::MAX;
+    for _ in 0..u64::MAX {
+        let Some(place) = ready_after(world, id, after) else {
+            break;
+        };
+        if place.epoch > last_epoch {
+            break;
+        }
+        if awaits(run(world, id, place)?) {
+            last_epoch = place.epoch;
+        }
+        after = Some(place);
+    }
+    Ok(())
+}
+
+/// The least place of a node after another whose request has its locks and isn't done.
+pub(crate) fn ready_after<A: App + Drop>(
+    world: &StoreWorld<A>,
+    id: NodeId,
+    after: Option<Place>,
+) -> Option<Place> {
+    world.node(id)?.first_ready(after)
+}
+
+/// Whether a request that was to be finished awaits rows of another partition.
+fn awaits(outcome: Outcome) -> bool {
+    matches!(outcome, Outcome::Refused(Fault::ReadsMissing))
+}
+
+/// The request at a place begins, if it has not begun, and is finished if it can be.
+#[tactic(auto, using(crate::proofs::Leading::quiet_here, crate::proofs::Leading::quiet_then))]
+fn run<A: App + Drop>(world: &mut StoreWorld<A>, id: NodeId, place: Place) -> Result<Outcome, Fault>
+    ensures quiet { LeadsQuietly A.meaning world.old world.new }
+    ensures only { IsOkUnless result Fault.OutOfMemory }
+{
+    let _begun = happen(world, &Event::At(id, Act::Begin(place)))?;
+    happen(world, &Event::At(id, Act::Finish(place)))
+}

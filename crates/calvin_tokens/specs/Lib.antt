@@ -1,4 +1,0 @@
-pub mod Names
-pub mod Spelled
-pub mod Gathered
-pub mod Usual
