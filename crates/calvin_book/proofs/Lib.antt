@@ -1,0 +1,9 @@
+pub mod Runs
+pub mod Growth
+pub mod Firsts
+pub mod Told
+pub mod Keeping
+pub mod Same
+pub mod Hearing
+pub mod Submitting
+pub mod Ran
