@@ -1,8 +1,10 @@
 //! Which scripts can be simulated.
-ghost use Rattle.std.specs.Prelude.{◌≡◌, map, nat_le};
+ghost use Rattle.std.specs.Prelude.{◌≡◌, ℕ, List, map, nat_le, Ok};
 ghost use Rattle.calvin_types.specs.declared.limits.TheConstants.{MOST_UNDECIDED};
-ghost use Rattle.calvin_script.specs.Scripts.{all_listed, contents};
-ghost use Rattle.calvin_sim.specs.Simulations.{listed_for, fits};
+ghost use Rattle.calvin_script.specs.Grammar.{Grammar};
+ghost use Rattle.calvin_script.specs.Reading.{script_from};
+ghost use Rattle.calvin_script.specs.Scripts.{Contents, all_listed, contents};
+ghost use Rattle.calvin_sim.specs.Simulations.{listed_for, fits, AllTaken};
 
 use calvin_script::{Epoch, Kept, Operation, Script, requests_of};
 use calvin_types::{MOST_EPOCHS, MOST_UNDECIDED};
@@ -33,3 +35,8 @@ pub fn fits<Op: Operation>(script: &Script<Kept<Op>>) -> bool
     }
     script.epochs.len() as u64 <= MOST_EPOCHS
 }
+
+/// A sequencer takes each request of a script that was read.
+pub fn read_is_taken<Args>()
+    ensures { (grammar : Grammar Args) (bytes : List ℕ) (script : Contents Args) → script_from grammar bytes ≡ Ok script → AllTaken script }
+{}

@@ -9,6 +9,6 @@ mod submitting;
 mod telling;
 
 pub use engine::{Simulated, sim};
-pub use fitting::fits;
+pub use fitting::{fits, read_is_taken};
 pub use simulation::simulate;
 pub use telling::simulate_and_tell;
