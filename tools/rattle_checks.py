@@ -95,7 +95,8 @@ class Kit:
                 raise Spent
             how = {"cwd": where, "stdin": subprocess.DEVNULL, "stdout": said, "stderr": subprocess.STDOUT}
             started = subprocess.Popen(words, **how)
-            self.running.add(started.pid)
+            with self.lanes.turn:
+                self.running.add(started.pid)
             _, status, used = os.wait4(started.pid, 0)
             started.returncode = os.waitstatus_to_exitcode(status)
             seconds = used.ru_utime + used.ru_stime
