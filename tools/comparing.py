@@ -9,10 +9,24 @@ import proved
 
 PROGRAM = proved.program()
 
+# A run that takes longer counts as failed.
+MOST_SECONDS = 120
+
+# The script of the worked case `move_across_partitions`, and how a run of it ends.
+MOVE = {"partitions": 2, "app": "kv", "epochs": [[{"group": 0, "txns": [
+    {"client": 7, "number": 1, "op": ["put", 1, 10]}, {"client": 7, "number": 2, "op": ["move", 1, 2, 4]},
+]}]]}  # fmt: skip
+MOVED = 0, "0.0 7:1 done\n0.1 7:2 done\nfinished 0\n", ""
+
 
 def found_by(words, script):
     """How the program ends on a script: status, standard output, standard error."""
-    run = subprocess.run([PROGRAM, *words], input=json.dumps(script).encode(), capture_output=True, check=False)
+    try:
+        run = subprocess.run(
+            [PROGRAM, *words], input=json.dumps(script).encode(), capture_output=True, check=False, timeout=MOST_SECONDS
+        )
+    except subprocess.TimeoutExpired:
+        return f"it hasn't ended after {MOST_SECONDS} seconds"
     return run.returncode, run.stdout.decode(), run.stderr.decode()
 
 

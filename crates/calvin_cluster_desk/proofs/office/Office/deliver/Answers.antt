@@ -1,0 +1,10 @@
+-- A packet fits in memory.
+use denote.Memory.{lone}
+use Rattle.calvin_node_packets.proofs.PacketSizes.{packet_of}
+use Rattle.calvin_cluster_desk.proofs.office.Office.deliver.Goals as goal
+
+pub packets-requires : goal.packets-requires
+packets-requires g c = packet_of (lone g.row.A-Args.mir) (lone g.row.A-Row.mir) (lone g.row.A-Reply.mir) g.met.A.App.work_fits
+
+pub aim-requires : goal.aim-requires
+aim-requires g c = packet_of (lone g.row.A-Args.mir) (lone g.row.A-Row.mir) (lone g.row.A-Reply.mir) g.met.A.App.work_fits

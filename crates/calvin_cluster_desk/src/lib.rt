@@ -1,0 +1,21 @@
+//! What lies under the lock of a running store: its book, the pen of the book's history, and what its threads have to do. A pure
+//! state machine; receipts of what happened in it, whose statements are met of the book that it leaves.
+#![tactic(auto)]
+
+mod asking;
+mod closing;
+mod desk;
+mod errands;
+mod office;
+mod receipt;
+mod running;
+mod scouting;
+mod seat;
+mod stopped;
+
+pub use desk::{Desk, Founded};
+pub use errands::Errand;
+pub use office::{News, Office};
+pub use receipt::{Founding, Report, Ticket, Told};
+pub use seat::Seats;
+pub use stopped::Stopped;
