@@ -1,5 +1,5 @@
 """Runs the proved program on many scripts, four at once, compares how each run ends with how it has to end, and counts what came
-up: what check_answers, check_sims and check_worlds have in common."""
+up: what check_answers, check_runs, check_sims and check_worlds have in common."""
 
 import json
 import subprocess

@@ -1,6 +1,7 @@
 //! The program `calvin`: a deterministic, partitioned, replicated transaction store. `calvin serial` runs a script of
-//! epochs one request at a time and prints what each request was answered; `calvin sim` runs one in a world of replicas and
-//! prints the same; `calvin check` runs a list of events in a world and prints what became of them.
+//! epochs one request at a time and prints what each request was answered; `calvin sim` runs one in a world of replicas, and
+//! `calvin run` in a store of threads, and both print the same; `calvin check` runs a list of events in a world and prints what
+//! became of them.
 #![tactic(auto)]
 
 use calvin_command::{command, refuse_words};
@@ -13,7 +14,7 @@ fn main(rt: HostRuntime) -> ExitCode {
     let mut output = OutputSink::new(rt.stdout());
     let mut error = OutputSink::new(rt.stderr());
     let status = match words_of(&rt) {
-        Ok(words) => command(rt.alloc(), &words, &mut input, &mut output, &mut error),
+        Ok(words) => command(rt, rt.alloc(), &words, &mut input, &mut output, &mut error),
         Err(why) => refuse_words(why.kind(), &mut error),
     };
     ExitCode::from(status)

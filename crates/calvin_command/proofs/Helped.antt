@@ -20,7 +20,7 @@ use Rattle.clap.specs.declared.builder.action.ArgAction.TheVariants as action
 use Rattle.clap.specs.declared.error.kind.ErrorKind.{ErrorKind}
 use Rattle.clap.specs.declared.error.kind.ErrorKind.TheVariants.{DisplayHelp}
 use Rattle.clap.specs.declared.builder.value_parser.ValueParser.{ValueParser}
-use Rattle.calvin_command.specs.Line.{calvin, IsSerialLine, IsCheckLine, IsSimLine, IsHelpLine, IsBadLine, HasHelpWord}
+use Rattle.calvin_command.specs.Line.{calvin, IsSerialLine, IsCheckLine, IsSimLine, IsRunLine, IsHelpLine, IsBadLine, HasHelpWord}
 use Rattle.calvin_command.proofs.Rows.{Each}
 use Rattle.calvin_command.proofs.Named.{is_taken_line}
 
@@ -132,18 +132,20 @@ top = (built calvin).top
 abbrev names : Names
 names = names_of (built calvin)
 
-met_alone : (word : Text) (h : Held) (is_serial is_check is_sim is_help : Bool) → is_help ≡ false
-    → Alone (other_fault top (option_map (λ (s : Text × List Text). s.0) (cond is_serial (Some (codes "serial", [])) (cond is_check (Some (codes "check", [])) (cond is_sim (Some (codes "sim", [])) (cond is_help (Some (codes "help", [])) None))))) word h)
-met_alone word h true is_check is_sim is_help other = none
-met_alone word h false true is_sim is_help other = none
-met_alone word h false false true is_help other = none
-met_alone word h false false false true other = absurd (true≢false other)
-met_alone word h false false false false other = plain_alone top word h
+met_alone : (word : Text) (h : Held) (is_serial is_check is_sim is_run is_help : Bool) → is_help ≡ false
+    → Alone (other_fault top (option_map (λ (s : Text × List Text). s.0) (cond is_serial (Some (codes "serial", [])) (cond is_check (Some (codes "check", [])) (cond is_sim (Some (codes "sim", [])) (cond is_run (Some (codes "run", [])) (cond is_help (Some (codes "help", [])) None)))))) word h)
+met_alone word h true is_check is_sim is_run is_help other = none
+met_alone word h false true is_sim is_run is_help other = none
+met_alone word h false false true is_run is_help other = none
+met_alone word h false false false true is_help other = none
+met_alone word h false false false false true other = absurd (true≢false other)
+met_alone word h false false false false false other = plain_alone top word h
 
 top_word_alone : (is_trailing : Bool) (waiting : Waiting) (word : Text) (h : Held) → bytes_eq (codes "help") word ≡ false → Alone (word_fault top names is_trailing waiting word h)
 top_word_alone true waiting word h other = none
 top_word_alone false idle word h other =
-    met_alone word h (answers_to word (codes "serial", [])) (answers_to word (codes "check", [])) (answers_to word (codes "sim", [])) (answers_to word (codes "help", []))
+    met_alone word h (answers_to word (codes "serial", [])) (answers_to word (codes "check", [])) (answers_to word (codes "sim", []))
+    (answers_to word (codes "run", [])) (answers_to word (codes "help", []))
     (ap (λ b. b || false) other)
 top_word_alone false (option id) word h other = plain_alone top word h
 top_word_alone false positional word h other = plain_alone top word h
@@ -249,11 +251,14 @@ is_alone words lacks =
     (walk_alone top names (λ word. bytes_eq (codes "help") word ≡ false) top_word_alone args (walk_from nothing_held) (no_help args (lacks_help args lacks)))
     (entered_alone (walk top.rules names nothing_held args).stopped)
 
-taken_covered : (words : List Text) → ¬ IsSerialLine words → ¬ IsCheckLine words → ¬ IsSimLine words → IsSerialLine words ⊎ IsCheckLine words ⊎ IsSimLine words → ⊥
-taken_covered words serial check sim (inl is) = serial is
-taken_covered words serial check sim (inr (inl is)) = check is
-taken_covered words serial check sim (inr (inr is)) = sim is
+taken_covered : (words : List Text) → ¬ IsSerialLine words → ¬ IsCheckLine words → ¬ IsSimLine words → ¬ IsRunLine words
+    → IsSerialLine words ⊎ IsCheckLine words ⊎ IsSimLine words ⊎ IsRunLine words → ⊥
+taken_covered words serial check sim run (inl is) = serial is
+taken_covered words serial check sim run (inr (inl is)) = check is
+taken_covered words serial check sim run (inr (inr (inl is))) = sim is
+taken_covered words serial check sim run (inr (inr (inr is))) = run is
 
-pub is_covered : (words : List Text) → ¬ HasHelpWord words → ¬ IsSerialLine words → ¬ IsCheckLine words → ¬ IsSimLine words → ¬ IsHelpLine words → IsBadLine words
-is_covered words lacks serial check sim helped =
-    (λ taken. taken_covered words serial check sim (is_taken_line words taken), λ among. helped (is_alone words lacks among))
+pub is_covered : (words : List Text) → ¬ HasHelpWord words → ¬ IsSerialLine words → ¬ IsCheckLine words → ¬ IsSimLine words → ¬ IsRunLine words → ¬ IsHelpLine words
+    → IsBadLine words
+is_covered words lacks serial check sim run helped =
+    (λ taken. taken_covered words serial check sim run (is_taken_line words taken), λ among. helped (is_alone words lacks among))

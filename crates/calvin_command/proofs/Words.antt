@@ -1,5 +1,5 @@
 -- Lines of the program, as clap reads them.
-use Rattle.std.proofs.Common.{◌≡◌, ◌||◌, ap₂, ℕ, List, [], ◌∷◌, codes, false, true, option_map, Option, Some, None, ⊎_elim, refl, ap, sym, subst, ◌∙◌, Box}
+use Rattle.std.proofs.Common.{◌≡◌, ◌||◌, ap₂, ℕ, List, [], ◌∷◌, codes, false, true, option_map, Option, Some, None, Ok, ⊎_elim, refl, ap, sym, subst, ◌∙◌, Box}
 use Rattle.std.specs.Prelude.{if◌then◌else◌}
 use Rattle.clap.specs.Words.{App, Rule, AddsArg, app_of, rule_of, with_rule, subcommand_of, Text, Row, is_simple, is_simple_and_free, subcommand_rows, subcommand_rows_of, subcommand_name_of}
 use Rattle.clap.specs.declared.builder.arg.Arg.{Arg}
@@ -14,7 +14,10 @@ use Rattle.calvin_serial.specs.declared.undeclared.UndeclaredSets.{UndeclaredSet
 use Rattle.calvin_serial.specs.declared.undeclared.UndeclaredSets.TheVariants.{First, Scouted}
 use Rattle.calvin_sim_events.specs.declared.schedule.Schedule.{Schedule}
 use Rattle.calvin_sim_events.specs.declared.schedule.Restarts.TheVariants.{Never}
-use Rattle.calvin_command.specs.Line.{calvin, IsSerialLine, IsHelpLine, IsBadLine, IsPlainSerialLine, IsPlainCheckLine, IsPlainSimLine, IsScoutLine, IsCheckLine, IsSimLine, IsAsked, IsUsual, has_flag, number_of, restarts_of, rows_found, sets_of, sets_asked, Names}
+use Rattle.calvin_run.specs.declared.team.Team.{Team}
+use Rattle.calvin_command.specs.declared.wishes.Wish.{Wish}
+use Rattle.calvin_command.specs.declared.wishes.Wish.TheVariants.{Serial, Check, Sim, Run, Help}
+use Rattle.calvin_command.specs.Line.{calvin, IsTaken, IsFor, IsOf, IsSerialLine, IsHelpLine, IsBadLine, IsPlainSerialLine, IsPlainCheckLine, IsPlainSimLine, IsPlainRunLine, IsScoutLine, IsCheckLine, IsSimLine, IsRunLine, IsAsked, IsUsual, IsTeamAsked, IsUsualTeam, has_flag, number_of, restarts_of, rows_found, sets_of, sets_asked, Names}
 
 -- the words are for `serial`, and ask for these sets
 abbrev pub Asks : UndeclaredSets → List (List ℕ) → Type 0
@@ -72,6 +75,28 @@ is_sim_line words plain = (
   usual_schedule words (subst AsksUsual (sym plain.1) (sim_usual plain.0)),
 )
 
+run_written : (program : List ℕ) → IsRunLine (program ∷ codes "run" ∷ [])
+unfolding clap_on_literals
+run_written program = (refl, refl)
+
+-- the numbers that `calvin run` asks for
+abbrev pub AsksUsualTeam : List (List ℕ) → Type 0
+AsksUsualTeam words = let rows = rows_found (subcommand_of calvin words) in
+    (number_of (codes "replicas") rows ≡ Some 3) × (number_of (codes "workers") rows ≡ Some 4)
+
+run_usual : (program : List ℕ) → AsksUsualTeam (program ∷ codes "run" ∷ [])
+unfolding clap_on_literals
+run_usual program = (refl, refl)
+
+usual_team : (words : List (List ℕ)) → AsksUsualTeam words → (team : Team) → IsTeamAsked words team → IsUsualTeam team
+usual_team words usual team asked = (some_same _ _ (sym asked.replicas ∙ usual.0), some_same _ _ (sym asked.workers ∙ usual.1))
+
+pub is_run_line : (words : List (List ℕ)) → IsPlainRunLine words → IsRunLine words × ((team : Team) → IsTeamAsked words team → IsUsualTeam team)
+is_run_line words plain = (
+  subst IsRunLine (sym plain.1) (run_written plain.0),
+  usual_team words (subst AsksUsualTeam (sym plain.1) (run_usual plain.0)),
+)
+
 -- lines that are written out: calls for help, no word at all, and a flag that is given twice
 pub is_help_line : (program : List ℕ) → IsHelpLine (program ∷ codes "--help" ∷ [])
 unfolding clap_on_literals
@@ -84,6 +109,10 @@ is_serial_help_line program = refl
 pub is_check_help_line : (program : List ℕ) → IsHelpLine (program ∷ codes "check" ∷ codes "--help" ∷ [])
 unfolding clap_on_literals
 is_check_help_line program = refl
+
+pub is_run_help_line : (program : List ℕ) → IsHelpLine (program ∷ codes "run" ∷ codes "--help" ∷ [])
+unfolding clap_on_literals
+is_run_help_line program = refl
 
 pub is_bare_line_bad : (program : List ℕ) → IsBadLine (program ∷ [])
 unfolding clap_on_literals
@@ -110,6 +139,15 @@ name_is name m words e named = same_name (out-ArgMatches m).subcommand ∙ ap (o
 -- and what they name the words name
 pub is_name : (name : List ℕ) (m : ArgMatches) (words : List (List ℕ)) → subcommand_rows_of m ≡ subcommand_of calvin words → subcommand_name_of m ≡ Some name → Names name words
 is_name name m words e named = ap (option_map (λ p. p.0)) (sym e) ∙ sym (same_name (out-ArgMatches m).subcommand) ∙ named
+
+-- a wish for what they name is one for what the words name
+pub is_for : (words : List (List ℕ)) (m : ArgMatches) (wish : Wish) → subcommand_rows_of m ≡ subcommand_of calvin words → IsTaken words
+    → IsOf (subcommand_name_of m) wish → IsFor words (Ok wish)
+is_for words m (Serial sets) same taken named = (taken, is_name (codes "serial") m words same named)
+is_for words m Check same taken named = (taken, is_name (codes "check") m words same named)
+is_for words m (Sim schedule) same taken named = (taken, is_name (codes "sim") m words same named)
+is_for words m (Run team) same taken named = (taken, is_name (codes "run") m words same named)
+is_for words m (Help e) same taken named = tt
 
 -- what clap found of `serial` tells which sets are asked for
 pub sets_found : (s : Option (Text × List Row)) (rows : List Row) → option_map (λ p. p.1) s ≡ Some rows → sets_of s ≡ (if has_flag (codes "scout") rows then Scouted else First)

@@ -4,17 +4,21 @@
 --     Runs from to telling .. status read IsText      what holds of a subcommand that refuses its input or writes such a text for it
 --     RunsEngine from to telling .. status text      what holds of one that writes the text that its input determines
 --     RunsSim from to telling .. status replicas      what holds of one that writes the text of a world of so many replicas to which its input leads
+--     RunsCluster from to telling .. status replicas      what holds of one that writes the text of a book of so many replicas that a cluster left, which began with what its input says
+--     StopsEarly from to telling .. status      what holds of one whose cluster may close early, or be shared still
 --     Expects from to telling .. status text IsExpected      what holds of one whose input says which answers it expects
 use Rattle.std.specs.Prelude.{◌≡◌, ◌≢◌, Bool, true, false, ℕ, ◌+◌, ◌<◌, List, length, take, Option, Result, Ok, Err, IfSome, IsErr, ◌⊎◌}
 use Rattle.std.specs.Io.KnownBytes.{Appends}
 use Rattle.calvin_types.specs.declared.fault.Fault.{Fault}
-use Rattle.calvin_types.specs.declared.fault.Fault.TheVariants.{OutOfMemory, ReadFailed, WriteFailed, NotExpected}
+use Rattle.calvin_types.specs.declared.fault.Fault.TheVariants.{OutOfMemory, Closed, NotEnded, ReadFailed, WriteFailed, NotExpected}
 use Rattle.calvin_edge.specs.declared.source.Source as source
 use Rattle.calvin_edge.specs.declared.sink.Sink as sink
-use Rattle.calvin_edge.specs.Answering.{HasText}
+use Rattle.calvin_edge.specs.Answering.{HasAnswer, HasText}
 use Rattle.calvin_edge.specs.Complaints.{complaint}
 use Rattle.calvin_sim.specs.declared.engine.Simulated.{Simulated}
 use Rattle.calvin_sim.specs.Engine.{sim_script, IsSimText}
+use Rattle.calvin_run.specs.declared.engine.Ran.{Ran}
+use Rattle.calvin_run.specs.Engine.{IsRunText}
 use Rattle.calvin_command.specs.Statuses.{status_of}
 
 pub record Tells (old new : Option (List ℕ)) (failures later : ℕ) (line : List ℕ) : Type 0 where
@@ -66,6 +70,16 @@ module _ {S K E : Type 0} (from : source.Ghosts S) (to : sink.Ghosts K) (telling
 
   abbrev pub RunsSim : ℕ → Type 0
   RunsSim replicas = Runs sim_script (λ bytes text. (world : Simulated) × IsSimText replicas bytes world text)
+
+  abbrev pub RunsCluster : ℕ → Type 0
+  RunsCluster replicas = Runs sim_script (λ bytes text. (book : Ran) × IsRunText replicas bytes book text)
+
+  -- what holds of a subcommand whose cluster may close early
+  pub record StopsEarly : Type 0 where
+    -- 3 comes only of a script that isn't refused, nothing is written then, and standard error is told which of the two it was
+    pub fits : status ≡ 3 → IfSome (from.left input) (λ bytes. HasAnswer (sim_script bytes) (λ _. Unit {0}))
+    pub unwritten : status ≡ 3 → output_after ≡ output
+    pub told_end : status ≡ 3 → IsTold (complaint Closed) ⊎ IsTold (complaint NotEnded)
 
   -- what holds of a subcommand whose input says which answers it expects
   pub record Expects (text : List ℕ → Result (List ℕ) Fault) (IsExpected : Bool → List ℕ → Type 0) : Type 0 where

@@ -3,11 +3,12 @@
 --     number_option name least most default      an option of this name that takes a number in a range, and without it the default
 --     scout_flag, restarts_flag      the flag `--scout` of `serial`, and `--restarts` of `sim`
 --     start_option, steps_option, replicas_option      the options of `sim`
---     serial_app, check_app, sim_app      the subcommands `serial`, `check` and `sim`
+--     workers_option      the option `--workers` of `run`, which has `--replicas` too
+--     serial_app, check_app, sim_app, run_app      the subcommands `serial`, `check`, `sim` and `run`
 --     calvin      the program's command line, as clap sees it
 --     IsTaken words      clap takes the words
 --     Names name words      as clap reads them, the words name the subcommand of this name
---     IsSerialLine words, IsCheckLine words, IsSimLine words      clap takes the words, and reads that they name the subcommand `serial`;  `check`;  `sim`
+--     IsSerialLine words, IsCheckLine words, IsSimLine words, IsRunLine words      clap takes the words, and reads that they name the subcommand `serial`;  `check`;  `sim`;  `run`
 --     has_flag name rows      the flag of this name is among what clap found
 --     sets_of found      the undeclared sets that are asked for by what clap found of a subcommand
 --     sets_asked words      the undeclared sets that the words ask for, as clap reads them
@@ -16,17 +17,20 @@
 --     restarts_of rows      whether nodes restart by what clap found
 --     IsScheduleOf rows schedule      what clap found asks for this schedule
 --     IsAsked words schedule      the words ask for this schedule, as clap reads them
---     IsUsual schedule      it is the one that is run where nothing else is asked for
+--     IsTeamOf rows team      what clap found asks for this team
+--     IsTeamAsked words team      the words ask for this team, as clap reads them
+--     IsUsual schedule, IsUsualTeam team      it is the one that is run where nothing else is asked for
 --     IsHelpLine words      clap answers the words with help
 --     IsBadLine words      clap refuses the words, and not with help
 --     HasHelpWord words      `help` stands among the words after the program's name
---     IsPlainSerialLine words, IsPlainCheckLine words, IsPlainSimLine words      the words are the program's name and `serial`;  and `check`;  and `sim`
+--     IsPlainSerialLine words, IsPlainCheckLine words, IsPlainSimLine words, IsPlainRunLine words      the words are the program's name and `serial`;  and `check`;  and `sim`;  and `run`
 --     IsScoutLine words      the words are the program's name, `serial` and `--scout`
 --     IsOf name wish      the wish is for the subcommand of this name
---     IsRun words wish      where a run is asked for, the words are for it
+--     IsFor words wish      where a subcommand is asked for, the words are for it
 --     IsSerial sets wish      the serial run is asked for with these undeclared sets, unless memory ran out
 --     IsCheck wish      the run of a list of events is asked for, unless memory ran out
 --     IsSim words wish      the run of a script in a world is asked for with a schedule that the words ask for, unless memory ran out
+--     IsRun words wish      the run of a script in threads is asked for by a team that the words ask for, unless memory ran out
 --     IsHelp wish      help is asked for, unless memory ran out
 --     IsRefused wish      nothing is asked for
 use Rattle.std.specs.Prelude.{◌≡◌, ◌≢◌, ◌≤◌, ◌&&◌, ◌^◌, ℕ, List, [], ◌∷◌, Option, Some, None, option_map, option_and_then, if◌then◌else◌, nat_lt, Result, Ok, Err, codes, drop, Bool, true, false}
@@ -46,10 +50,12 @@ use Rattle.calvin_sim_events.specs.declared.schedule.TheConstants.{MOST_STEPS}
 use Rattle.calvin_sim_events.specs.declared.schedule.Schedule.{Schedule}
 use Rattle.calvin_sim_events.specs.declared.schedule.Restarts.{Restarts}
 use Rattle.calvin_sim_events.specs.declared.schedule.Restarts.TheVariants.{Never, AboveReplicaZero}
-use Rattle.calvin_command.specs.declared.dispatch.Wish.{Wish}
-use Rattle.calvin_command.specs.declared.dispatch.Wish.TheVariants.{Serial, Check, Sim, Help}
-use Rattle.calvin_command.specs.declared.dispatch.Refusal.{Refusal}
-use Rattle.calvin_command.specs.declared.dispatch.Refusal.TheVariants.{BadLine, OutOfMemory}
+use Rattle.calvin_cluster.specs.declared.cluster.TheConstants.{MOST_WORKERS}
+use Rattle.calvin_run.specs.declared.team.Team.{Team}
+use Rattle.calvin_command.specs.declared.wishes.Wish.{Wish}
+use Rattle.calvin_command.specs.declared.wishes.Wish.TheVariants.{Serial, Check, Sim, Run, Help}
+use Rattle.calvin_command.specs.declared.wishes.Refusal.{Refusal}
+use Rattle.calvin_command.specs.declared.wishes.Refusal.TheVariants.{BadLine, OutOfMemory}
 
 abbrev pub flag : Text → Rule
 flag name = record (new_rule name) { long = Some name; action = Some SetTrue }
@@ -90,11 +96,18 @@ replicas_option = number_option (codes "replicas") 1 MOST_REPLICAS (codes "3")
 abbrev pub sim_app : App
 sim_app = with_rule (with_rule (with_rule (with_rule (new_app (codes "sim")) start_option) steps_option) replicas_option) restarts_flag
 
+-- `run`, which has two options
+abbrev pub workers_option : Rule
+workers_option = number_option (codes "workers") 1 MOST_WORKERS (codes "4")
+
+abbrev pub run_app : App
+run_app = with_rule (with_rule (new_app (codes "run")) replicas_option) workers_option
+
 -- the program: one of its subcommands is required
 abbrev pub calvin : App
 calvin = let plain = new_app (codes "calvin") in
     let required = record plain { top = record plain.top { subcommand_required = true } } in
-    with_subcommand (with_subcommand (with_subcommand required serial_app.top) check_app.top) sim_app.top
+    with_subcommand (with_subcommand (with_subcommand (with_subcommand required serial_app.top) check_app.top) sim_app.top) run_app.top
 
 -- clap has no error for the words
 abbrev pub IsTaken : List (List ℕ) → Type 0
@@ -111,6 +124,9 @@ IsCheckLine words = IsTaken words × Names (codes "check") words
 
 abbrev pub IsSimLine : List (List ℕ) → Type 0
 IsSimLine words = IsTaken words × Names (codes "sim") words
+
+abbrev pub IsRunLine : List (List ℕ) → Type 0
+IsRunLine words = IsTaken words × Names (codes "run") words
 
 abbrev pub has_flag : Text → List Row → Bool
 has_flag name rows = option_map_or (λ value. bytes_eq value (codes "true")) (first_of name rows) false
@@ -150,6 +166,16 @@ IsAsked words schedule = IsScheduleOf (rows_found (subcommand_of calvin words)) 
 abbrev pub IsUsual : Schedule → Type 0
 IsUsual schedule = (schedule.start ≡ 1) × (schedule.steps ≡ 1000) × (schedule.replicas ≡ 3) × (schedule.restarts ≡ Never)
 
+pub record IsTeamOf (rows : List Row) (team : Team) : Type 0 where
+  pub replicas : number_of (codes "replicas") rows ≡ Some team.replicas
+  pub workers : number_of (codes "workers") rows ≡ Some team.workers
+
+abbrev pub IsTeamAsked : List (List ℕ) → Team → Type 0
+IsTeamAsked words team = IsTeamOf (rows_found (subcommand_of calvin words)) team
+
+abbrev pub IsUsualTeam : Team → Type 0
+IsUsualTeam team = (team.replicas ≡ 3) × (team.workers ≡ 4)
+
 -- help is all that clap has for the words
 abbrev pub IsHelpLine : List (List ℕ) → Type 0
 IsHelpLine words = fault_of calvin words ≡ DisplayHelp ∷ []
@@ -170,6 +196,9 @@ IsPlainCheckLine words = (program : List ℕ) × (words ≡ program ∷ codes "c
 abbrev pub IsPlainSimLine : List (List ℕ) → Type 0
 IsPlainSimLine words = (program : List ℕ) × (words ≡ program ∷ codes "sim" ∷ [])
 
+abbrev pub IsPlainRunLine : List (List ℕ) → Type 0
+IsPlainRunLine words = (program : List ℕ) × (words ≡ program ∷ codes "run" ∷ [])
+
 abbrev pub IsScoutLine : List (List ℕ) → Type 0
 IsScoutLine words = (program : List ℕ) × (words ≡ program ∷ codes "serial" ∷ codes "--scout" ∷ [])
 
@@ -177,19 +206,22 @@ abbrev pub IsOf : Option (List ℕ) → Wish → Type 0
 IsOf name (Serial sets) = name ≡ Some (codes "serial")
 IsOf name Check = name ≡ Some (codes "check")
 IsOf name (Sim schedule) = name ≡ Some (codes "sim")
+IsOf name (Run team) = name ≡ Some (codes "run")
 IsOf name (Help e) = ⊥
 
-abbrev pub IsRun : List (List ℕ) → Result Wish Refusal → Type 0
-IsRun words (Ok (Serial sets)) = IsSerialLine words
-IsRun words (Ok Check) = IsCheckLine words
-IsRun words (Ok (Sim schedule)) = IsSimLine words
-IsRun words (Ok (Help e)) = Unit {0}
-IsRun words (Err refusal) = Unit {0}
+abbrev pub IsFor : List (List ℕ) → Result Wish Refusal → Type 0
+IsFor words (Ok (Serial sets)) = IsSerialLine words
+IsFor words (Ok Check) = IsCheckLine words
+IsFor words (Ok (Sim schedule)) = IsSimLine words
+IsFor words (Ok (Run team)) = IsRunLine words
+IsFor words (Ok (Help e)) = Unit {0}
+IsFor words (Err refusal) = Unit {0}
 
 abbrev pub IsSerial : UndeclaredSets → Result Wish Refusal → Type 0
 IsSerial sets (Ok (Serial asked)) = asked ≡ sets
 IsSerial sets (Ok Check) = ⊥
 IsSerial sets (Ok (Sim schedule)) = ⊥
+IsSerial sets (Ok (Run team)) = ⊥
 IsSerial sets (Ok (Help e)) = ⊥
 IsSerial sets (Err BadLine) = ⊥
 IsSerial sets (Err OutOfMemory) = Unit {0}
@@ -198,6 +230,7 @@ abbrev pub IsCheck : Result Wish Refusal → Type 0
 IsCheck (Ok (Serial asked)) = ⊥
 IsCheck (Ok Check) = Unit {0}
 IsCheck (Ok (Sim schedule)) = ⊥
+IsCheck (Ok (Run team)) = ⊥
 IsCheck (Ok (Help e)) = ⊥
 IsCheck (Err BadLine) = ⊥
 IsCheck (Err OutOfMemory) = Unit {0}
@@ -206,14 +239,25 @@ abbrev pub IsSim : List (List ℕ) → Result Wish Refusal → Type 0
 IsSim words (Ok (Serial asked)) = ⊥
 IsSim words (Ok Check) = ⊥
 IsSim words (Ok (Sim schedule)) = IsAsked words schedule
+IsSim words (Ok (Run team)) = ⊥
 IsSim words (Ok (Help e)) = ⊥
 IsSim words (Err BadLine) = ⊥
 IsSim words (Err OutOfMemory) = Unit {0}
+
+abbrev pub IsRun : List (List ℕ) → Result Wish Refusal → Type 0
+IsRun words (Ok (Serial asked)) = ⊥
+IsRun words (Ok Check) = ⊥
+IsRun words (Ok (Sim schedule)) = ⊥
+IsRun words (Ok (Run team)) = IsTeamAsked words team
+IsRun words (Ok (Help e)) = ⊥
+IsRun words (Err BadLine) = ⊥
+IsRun words (Err OutOfMemory) = Unit {0}
 
 abbrev pub IsHelp : Result Wish Refusal → Type 0
 IsHelp (Ok (Serial sets)) = ⊥
 IsHelp (Ok Check) = ⊥
 IsHelp (Ok (Sim schedule)) = ⊥
+IsHelp (Ok (Run team)) = ⊥
 IsHelp (Ok (Help e)) = Unit {0}
 IsHelp (Err BadLine) = ⊥
 IsHelp (Err OutOfMemory) = Unit {0}

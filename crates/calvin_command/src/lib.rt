@@ -3,6 +3,9 @@
 
 mod dispatch;
 mod ending;
+mod help;
+mod lines;
+mod wishes;
 
 pub use dispatch::command;
 pub use ending::refuse_words;

@@ -1,11 +1,11 @@
 //! The worked cases of `calvin check`.
+use crate::checks::Runtime;
 use crate::event_lists::{Events, happens};
 use crate::lines::runs;
 use std::alloc::Global;
-use std::process::Abort;
 use std::test::Fail;
 
-fn prints(rt: &impl Abort, alloc: Global, script: &str, text: &str) {
+fn prints(rt: &impl Runtime, alloc: Global, script: &str, text: &str) {
     runs(rt, alloc, &["calvin", "check"], script, 0, text, "");
 }
 

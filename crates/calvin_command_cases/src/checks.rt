@@ -1,6 +1,13 @@
 //! How a test compares.
 use std::fmt::Debug;
 use std::process::Abort;
+use std::sync::Wait;
+use std::thread::Threads;
+
+/// What a test is given to run commands with.
+pub(crate) trait Runtime: Abort + Threads + Wait + Copy + Send + Sync + 'static {}
+
+impl<R: Abort + Threads + Wait + Copy + Send + Sync + 'static> Runtime for R {}
 
 /// It is so; else the test fails.
 pub(crate) fn holds(rt: &impl Abort, is_so: bool) {

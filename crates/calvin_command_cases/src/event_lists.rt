@@ -1,7 +1,7 @@
 //! Lists of events for the worked cases of `calvin check`, and what has to be printed of them.
+use crate::checks::Runtime;
 use crate::lines::runs;
 use std::alloc::{AllocError, Global};
-use std::process::Abort;
 
 /// A list of events in a world, and what becomes of them.
 #[derive(Clone, Copy)]
@@ -65,13 +65,13 @@ fn text_of(alloc: Global, list: &Events) -> Result<String, AllocError> {
 }
 
 /// Runs `calvin check` on the list, and compares what it prints.
-pub(crate) fn happens(rt: &impl Abort, alloc: Global, list: &Events) -> Result<(), AllocError> {
+pub(crate) fn happens(rt: &impl Runtime, alloc: Global, list: &Events) -> Result<(), AllocError> {
     happens_with(rt, alloc, "", list)
 }
 
 /// The same for a script with further members, each with a comma behind it.
 pub(crate) fn happens_with(
-    rt: &impl Abort,
+    rt: &impl Runtime,
     alloc: Global,
     members: &str,
     list: &Events,

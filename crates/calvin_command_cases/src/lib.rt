@@ -18,6 +18,8 @@ mod once;
 #[cfg(test)]
 mod points;
 #[cfg(test)]
+mod run;
+#[cfg(test)]
 mod sim;
 #[cfg(test)]
 mod snapshots;

@@ -1,8 +1,8 @@
 //! The worked case `limits`, as far as lists of events can tell it, through `calvin check`.
+use crate::checks::Runtime;
 use crate::event_lists::{Events, happens};
 use crate::lines::runs;
 use std::alloc::{AllocError, Global};
-use std::process::Abort;
 use std::test::Fail;
 
 const ONE_STANDS_NOWHERE: &str = "node 0.0 stands none rows 0\nfinished none\n";
@@ -35,7 +35,7 @@ fn locks(alloc: Global, count: u64) -> Result<String, AllocError> {
 }
 
 /// A queue takes 4,096 requests.
-fn queue(rt: &impl Abort, alloc: Global) -> Result<(), AllocError> {
+fn queue(rt: &impl Runtime, alloc: Global) -> Result<(), AllocError> {
     let submitted = submissions(alloc, 4_097)?;
     let list = Events {
         partitions: 1,
@@ -49,7 +49,7 @@ fn queue(rt: &impl Abort, alloc: Global) -> Result<(), AllocError> {
 }
 
 /// Of 257 requests 256 are of epoch 0, and one is of epoch 1: these are locked, and the places after them aren't there.
-fn batch(rt: &impl Abort, alloc: Global) -> Result<(), AllocError> {
+fn batch(rt: &impl Runtime, alloc: Global) -> Result<(), AllocError> {
     let (submitted, locked) = (submissions(alloc, 257)?, locks(alloc, 258)?);
     let list = Events {
         partitions: 1,
@@ -69,7 +69,7 @@ fn batch(rt: &impl Abort, alloc: Global) -> Result<(), AllocError> {
 
 /// A request has at most 16 keys, none twice, and at least one; its attempts are 1 to 8. Which fault a longer list of keys has is
 /// told by the bad script alone.
-fn request(rt: &impl Abort, alloc: Global) -> Result<(), AllocError> {
+fn request(rt: &impl Runtime, alloc: Global) -> Result<(), AllocError> {
     let list = Events {
         partitions: 1,
         replicas: 1,

@@ -1,10 +1,9 @@
 //! The worked cases of `calvin serial`; what no clause says, which is the text of help and what lines with the word
 //! `help` come to; and bad lines and failing devices seen through the program.
-use crate::checks::{holds, same};
+use crate::checks::{Runtime, holds, same};
 use calvin_command::command;
 use calvin_edge::{FailingSink, FailingSource, MemorySink, MemorySource, WriteFailure};
 use std::alloc::Global;
-use std::process::Abort;
 use std::test::Fail;
 
 const PUT_THEN_GET: &str =
@@ -14,7 +13,7 @@ const PUT_THEN_GET_TEXT: &str = "0.0 7:1 done\n0.1 7:2 value 5\nfinished 0\n";
 
 /// Runs a line over memory, and compares the status, the output and what standard error is told.
 pub(crate) fn runs(
-    rt: &impl Abort,
+    rt: &impl Runtime,
     alloc: Global,
     words: &[&str],
     script: &str,
@@ -25,7 +24,7 @@ pub(crate) fn runs(
     let mut input = MemorySource::new(script.as_bytes());
     let mut output = MemorySink::new(alloc);
     let mut error = MemorySink::new(alloc);
-    let found = command(alloc, words, &mut input, &mut output, &mut error);
+    let found = command(*rt, alloc, words, &mut input, &mut output, &mut error);
     same(
         rt,
         (script, output.taken.as_slice(), error.taken.as_slice()),
@@ -34,17 +33,17 @@ pub(crate) fn runs(
     same(rt, (script, found), (script, status));
 }
 
-fn prints(rt: &impl Abort, alloc: Global, script: &str, text: &str) {
+fn prints(rt: &impl Runtime, alloc: Global, script: &str, text: &str) {
     runs(rt, alloc, &["calvin", "serial"], script, 0, text, "");
 }
 
 /// Runs a script with `--scout`, and compares what it prints.
-fn scouts(rt: &impl Abort, alloc: Global, script: &str, text: &str) {
+fn scouts(rt: &impl Runtime, alloc: Global, script: &str, text: &str) {
     let words = ["calvin", "serial", "--scout"];
     runs(rt, alloc, &words, script, 0, text, "");
 }
 
-fn refuses(rt: &impl Abort, alloc: Global, script: &str, told: &str) {
+fn refuses(rt: &impl Runtime, alloc: Global, script: &str, told: &str) {
     runs(rt, alloc, &["calvin", "serial"], script, 2, "", told);
 }
 
@@ -133,11 +132,10 @@ fn scouted_settle(rt: HostRuntime) {
 
 #[test]
 fn bad_lines(rt: HostRuntime) {
-    let lines: [&[&str]; 13] = [
+    let lines: [&[&str]; 12] = [
         &["calvin"],
         &["calvin", "parallel"],
         &["calvin", "check", "script.json"],
-        &["calvin", "run", "--workers", "4"],
         &["calvin", "--scout"],
         &["calvin", "--scout", "serial"],
         &["calvin", "serial", "--scout", "--scout"],
@@ -170,13 +168,13 @@ fn has_text(whole: &[u8], part: &str) -> bool {
 }
 
 /// Runs a line that asks for help, whose text has these parts.
-fn helps(rt: &impl Abort, alloc: Global, words: &[&str], parts: &[&str]) {
+fn helps(rt: &impl Runtime, alloc: Global, words: &[&str], parts: &[&str]) {
     let mut input = MemorySource::new(b"");
     let mut output = MemorySink::new(alloc);
     let mut error = MemorySink::new(alloc);
     same(
         rt,
-        command(alloc, words, &mut input, &mut output, &mut error),
+        command(*rt, alloc, words, &mut input, &mut output, &mut error),
         0,
     );
     for part in parts {
@@ -192,7 +190,7 @@ fn helps(rt: &impl Abort, alloc: Global, words: &[&str], parts: &[&str]) {
 #[test]
 fn help_is_shown(rt: HostRuntime) {
     let alloc = rt.alloc();
-    let parts = ["serial", "Statuses:", "calvin serial --help"];
+    let parts = ["serial", "run ", "Statuses:", "calvin serial --help"];
     helps(&rt, alloc, &["calvin", "--help"], &parts);
     helps(&rt, alloc, &["calvin", "-h"], &parts);
     helps(&rt, alloc, &["calvin", "help"], &parts);
@@ -201,6 +199,15 @@ fn help_is_shown(rt: HostRuntime) {
     helps(&rt, alloc, &["calvin", "help", "serial"], &parts);
     let parts = ["--start <N>", "[default: 1000]", "--restarts", "4,096"];
     helps(&rt, alloc, &["calvin", "sim", "--help"], &parts);
+    let parts = [
+        "--replicas <N>",
+        "[default: 3]",
+        "--workers <N>",
+        "[default: 4]",
+        "4,096",
+    ];
+    helps(&rt, alloc, &["calvin", "run", "--help"], &parts);
+    helps(&rt, alloc, &["calvin", "help", "run"], &parts);
 }
 
 #[test]
@@ -214,7 +221,7 @@ fn script_too_long(rt: HostRuntime) -> Result<(), Fail> {
     let mut error = MemorySink::new(alloc);
     same(
         &rt,
-        command(alloc, &words, &mut input, &mut output, &mut error),
+        command(rt, alloc, &words, &mut input, &mut output, &mut error),
         2,
     );
     same(
@@ -230,7 +237,7 @@ fn script_too_long(rt: HostRuntime) -> Result<(), Fail> {
     let mut error = MemorySink::new(alloc);
     same(
         &rt,
-        command(alloc, &words, &mut input, &mut output, &mut error),
+        command(rt, alloc, &words, &mut input, &mut output, &mut error),
         0,
     );
     same(&rt, output.taken.as_slice(), PUT_THEN_GET_TEXT.as_bytes());
@@ -252,7 +259,7 @@ fn failing_readers(rt: HostRuntime) {
         let mut error = MemorySink::new(alloc);
         same(
             &rt,
-            command(alloc, &words, &mut input, &mut output, &mut error),
+            command(rt, alloc, &words, &mut input, &mut output, &mut error),
             5,
         );
         same(
@@ -266,12 +273,19 @@ fn failing_readers(rt: HostRuntime) {
 }
 
 /// Runs a script to the end of this output, which fails after `out` bytes of the text.
-fn stops_after(rt: &impl Abort, alloc: Global, output: &mut FailingSink, out: usize) {
+fn stops_after(rt: &impl Runtime, alloc: Global, output: &mut FailingSink, out: usize) {
     let mut input = MemorySource::new(PUT_THEN_GET.as_bytes());
     let mut error = MemorySink::new(alloc);
     same(
         rt,
-        command(alloc, &["calvin", "serial"], &mut input, output, &mut error),
+        command(
+            *rt,
+            alloc,
+            &["calvin", "serial"],
+            &mut input,
+            output,
+            &mut error,
+        ),
         5,
     );
     same(
@@ -290,7 +304,7 @@ fn stops_after(rt: &impl Abort, alloc: Global, output: &mut FailingSink, out: us
 }
 
 /// The calls, the bytes and the bytes of a call after which an output fails, and how many bytes are out then.
-fn failing_writers_by(rt: &impl Abort, alloc: Global, failure: WriteFailure) {
+fn failing_writers_by(rt: &impl Runtime, alloc: Global, failure: WriteFailure) {
     let whole = PUT_THEN_GET_TEXT.len();
     let rows = [
         (usize::MAX, 0, 9, 0),
@@ -333,7 +347,7 @@ fn one_byte_a_write(rt: HostRuntime) {
     let mut error = MemorySink::new(alloc);
     same(
         &rt,
-        command(alloc, &words, &mut input, &mut output, &mut error),
+        command(rt, alloc, &words, &mut input, &mut output, &mut error),
         0,
     );
     same(&rt, output.taken.as_slice(), PUT_THEN_GET_TEXT.as_bytes());
@@ -353,7 +367,7 @@ fn a_failing_standard_error(rt: HostRuntime) {
         };
         same(
             &rt,
-            command(alloc, words, &mut input, &mut output, &mut error),
+            command(rt, alloc, words, &mut input, &mut output, &mut error),
             2,
         );
         same(&rt, error.taken.as_slice(), b"cal".as_slice());

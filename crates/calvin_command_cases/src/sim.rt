@@ -1,15 +1,15 @@
 //! The worked cases of `calvin sim`, and the lines that it refuses.
+use crate::checks::Runtime;
 use crate::lines::runs;
 use std::alloc::{AllocError, Global};
-use std::process::Abort;
 use std::test::Fail;
 
-const MOVE: &str =
+pub(crate) const MOVE: &str =
     r#"{"partitions":2,"app":"kv","epochs":[[{"group":0,"txns":[{"client":7,"number":1,"op":["put",1,10]},{"client":7,"number":2,"op":["move",1,2,4]}]}]]}"#;
 
-const MOVE_TEXT: &str = "0.0 7:1 done\n0.1 7:2 done\nfinished 0\n";
+pub(crate) const MOVE_TEXT: &str = "0.0 7:1 done\n0.1 7:2 done\nfinished 0\n";
 
-fn prints(rt: &impl Abort, alloc: Global, script: &str, text: &str) {
+fn prints(rt: &impl Runtime, alloc: Global, script: &str, text: &str) {
     runs(rt, alloc, &["calvin", "sim"], script, 0, text, "");
 }
 
@@ -36,7 +36,7 @@ fn passive_partition(rt: HostRuntime) {
 }
 
 /// A script of two partitions whose only group puts 200, and then moves 1 so often.
-fn moves(alloc: Global, count: u32) -> Result<String, AllocError> {
+pub(crate) fn moves(alloc: Global, count: u32) -> Result<String, AllocError> {
     let mut script = String::new(alloc);
     script.push_str(
         r#"{"partitions":2,"app":"kv","epochs":[[{"group":0,"txns":[{"client":7,"number":1,"op":["put",1,200]}"#,

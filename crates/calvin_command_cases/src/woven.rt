@@ -1,10 +1,10 @@
 //! The worked cases of woven batches.
+use crate::checks::Runtime;
 use crate::lines::runs;
 use std::alloc::Global;
-use std::process::Abort;
 
 /// Runs a script with and without `--scout`, and compares what it prints.
-fn prints(rt: &impl Abort, alloc: Global, script: &str, text: &str) {
+fn prints(rt: &impl Runtime, alloc: Global, script: &str, text: &str) {
     runs(rt, alloc, &["calvin", "serial"], script, 0, text, "");
     let words = ["calvin", "serial", "--scout"];
     runs(rt, alloc, &words, script, 0, text, "");

@@ -1,8 +1,9 @@
 use Rattle.std.proofs.Common.{arith, map, subst, Ok}
-use Rattle.calvin_command.specs.declared.dispatch.Wish.{Wish}
-use Rattle.calvin_command.specs.Line.{IsSim}
-use Rattle.calvin_command.proofs.Asked.{asked_of}
-use Rattle.calvin_command.proofs.Words.{is_check_line, is_plain_line, is_scout_line, is_sim_line}
+use Rattle.calvin_command.specs.declared.wishes.Wish.{Wish}
+use Rattle.calvin_command.specs.Line.{IsRun, IsSim}
+use Rattle.calvin_command.proofs.Schedules.{asked_of}
+use Rattle.calvin_command.proofs.Teams.{team_asked}
+use Rattle.calvin_command.proofs.Words.{is_check_line, is_plain_line, is_run_line, is_scout_line, is_sim_line}
 use Rattle.calvin_command.proofs.dispatch.command.Goals as goal
 
 pub returns-in-Ok-Serial-clause-plain : goal.returns-in-Ok-Serial-clause-plain
@@ -17,8 +18,14 @@ returns-in-Ok-Serial-clause-plain_check g c = is_check_line (map g.W.AsStr.text 
 pub returns-in-Ok-Serial-clause-plain_sim : goal.returns-in-Ok-Serial-clause-plain_sim
 returns-in-Ok-Serial-clause-plain_sim g c = is_sim_line (map g.W.AsStr.text c.args.words.now)
 
+pub returns-in-Ok-Serial-clause-plain_run : goal.returns-in-Ok-Serial-clause-plain_run
+returns-in-Ok-Serial-clause-plain_run g c = is_run_line (map g.W.AsStr.text c.args.words.now)
+
 pub returns-in-Ok-Check-clause-plain_sim : goal.returns-in-Ok-Check-clause-plain_sim
 returns-in-Ok-Check-clause-plain_sim g c = is_sim_line (map g.W.AsStr.text c.args.words.now)
+
+pub returns-in-Ok-Check-clause-plain_run : goal.returns-in-Ok-Check-clause-plain_run
+returns-in-Ok-Check-clause-plain_run g c = is_run_line (map g.W.AsStr.text c.args.words.now)
 
 pub returns-in-Ok-Sim-clause-plain_check : goal.returns-in-Ok-Sim-clause-plain_check
 returns-in-Ok-Sim-clause-plain_check g c = is_check_line (map g.W.AsStr.text c.args.words.now)
@@ -26,10 +33,27 @@ returns-in-Ok-Sim-clause-plain_check g c = is_check_line (map g.W.AsStr.text c.a
 pub returns-in-Ok-Sim-clause-plain_sim : goal.returns-in-Ok-Sim-clause-plain_sim
 returns-in-Ok-Sim-clause-plain_sim g c = is_sim_line (map g.W.AsStr.text c.args.words.now)
 
+pub returns-in-Ok-Sim-clause-plain_run : goal.returns-in-Ok-Sim-clause-plain_run
+returns-in-Ok-Sim-clause-plain_run g c = is_run_line (map g.W.AsStr.text c.args.words.now)
+
 pub returns-in-Ok-Sim-clause-sim : goal.returns-in-Ok-Sim-clause-sim
 returns-in-Ok-Sim-clause-sim g c line =
     let words = map g.W.AsStr.text c.args.words.now in
     (c.in-Ok-Sim.schedule, subst (λ (w : Wish). IsSim words (Ok w)) c.in-Ok-Sim.field-0-is (c.in-Ok-Sim.ensures.sim line), c.run_sim.ensures.sim)
+
+pub returns-in-Ok-Run-clause-plain_check : goal.returns-in-Ok-Run-clause-plain_check
+returns-in-Ok-Run-clause-plain_check g c = is_check_line (map g.W.AsStr.text c.args.words.now)
+
+pub returns-in-Ok-Run-clause-plain_sim : goal.returns-in-Ok-Run-clause-plain_sim
+returns-in-Ok-Run-clause-plain_sim g c = is_sim_line (map g.W.AsStr.text c.args.words.now)
+
+pub returns-in-Ok-Run-clause-plain_run : goal.returns-in-Ok-Run-clause-plain_run
+returns-in-Ok-Run-clause-plain_run g c = is_run_line (map g.W.AsStr.text c.args.words.now)
+
+pub returns-in-Ok-Run-clause-run : goal.returns-in-Ok-Run-clause-run
+returns-in-Ok-Run-clause-run g c line =
+    let words = map g.W.AsStr.text c.args.words.now in
+    (c.in-Ok-Run.team, subst (λ (w : Wish). IsRun words (Ok w)) c.in-Ok-Run.field-0-is (c.in-Ok-Run.ensures.run line), c.run_cluster.ensures.run)
 
 pub returns-in-Ok-Help-clause-plain_check : goal.returns-in-Ok-Help-clause-plain_check
 returns-in-Ok-Help-clause-plain_check g c = is_check_line (map g.W.AsStr.text c.args.words.now)
@@ -37,11 +61,17 @@ returns-in-Ok-Help-clause-plain_check g c = is_check_line (map g.W.AsStr.text c.
 pub returns-in-Ok-Help-clause-plain_sim : goal.returns-in-Ok-Help-clause-plain_sim
 returns-in-Ok-Help-clause-plain_sim g c = is_sim_line (map g.W.AsStr.text c.args.words.now)
 
+pub returns-in-Ok-Help-clause-plain_run : goal.returns-in-Ok-Help-clause-plain_run
+returns-in-Ok-Help-clause-plain_run g c = is_run_line (map g.W.AsStr.text c.args.words.now)
+
 pub returns-in-Err-BadLine-clause-plain_check : goal.returns-in-Err-BadLine-clause-plain_check
 returns-in-Err-BadLine-clause-plain_check g c = is_check_line (map g.W.AsStr.text c.args.words.now)
 
 pub returns-in-Err-BadLine-clause-plain_sim : goal.returns-in-Err-BadLine-clause-plain_sim
 returns-in-Err-BadLine-clause-plain_sim g c = is_sim_line (map g.W.AsStr.text c.args.words.now)
+
+pub returns-in-Err-BadLine-clause-plain_run : goal.returns-in-Err-BadLine-clause-plain_run
+returns-in-Err-BadLine-clause-plain_run g c = is_run_line (map g.W.AsStr.text c.args.words.now)
 
 pub returns-in-Err-OutOfMemory-clause-plain_check : goal.returns-in-Err-OutOfMemory-clause-plain_check
 returns-in-Err-OutOfMemory-clause-plain_check g c = is_check_line (map g.W.AsStr.text c.args.words.now)
@@ -49,9 +79,25 @@ returns-in-Err-OutOfMemory-clause-plain_check g c = is_check_line (map g.W.AsStr
 pub returns-in-Err-OutOfMemory-clause-plain_sim : goal.returns-in-Err-OutOfMemory-clause-plain_sim
 returns-in-Err-OutOfMemory-clause-plain_sim g c = is_sim_line (map g.W.AsStr.text c.args.words.now)
 
+pub returns-in-Err-OutOfMemory-clause-plain_run : goal.returns-in-Err-OutOfMemory-clause-plain_run
+returns-in-Err-OutOfMemory-clause-plain_run g c = is_run_line (map g.W.AsStr.text c.args.words.now)
+
 pub returns-in-Err-OutOfMemory-clause-sim : goal.returns-in-Err-OutOfMemory-clause-sim
 returns-in-Err-OutOfMemory-clause-sim g c line =
     let asked = asked_of (map g.W.AsStr.text c.args.words.now) line in (
+      asked.0,
+      asked.1,
+      record {
+        written = λ zero. absurd (omega (arith, zero, c.end_with.ensures.status));
+        refused = λ two. absurd (omega (arith, two, c.end_with.ensures.status));
+        told_refusal = λ two. absurd (omega (arith, two, c.end_with.ensures.status));
+        beginning = λ failed. absurd (omega (arith, failed));
+      },
+    )
+
+pub returns-in-Err-OutOfMemory-clause-run : goal.returns-in-Err-OutOfMemory-clause-run
+returns-in-Err-OutOfMemory-clause-run g c line =
+    let asked = team_asked (map g.W.AsStr.text c.args.words.now) line in (
       asked.0,
       asked.1,
       record {

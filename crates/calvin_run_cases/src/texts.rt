@@ -1,0 +1,103 @@
+//! What is told of scripts.
+use crate::scripts::{REPLICAS, same, tells};
+use calvin_node::Act;
+use calvin_run::Ran;
+use calvin_types::Key;
+use calvin_world::Event;
+use std::test::Fail;
+
+const MOVE: &str =
+    r#"{"partitions":2,"app":"kv","epochs":[[{"group":0,"txns":[{"client":7,"number":1,"op":["put",1,10]},{"client":7,"number":2,"op":["move",1,2,4]}]}]]}"#;
+
+const MOVED: &str = "0.0 7:1 done\n0.1 7:2 done\nfinished 0\n";
+
+fn key(id: u64) -> Key {
+    Key { table: 0, id }
+}
+
+#[test]
+fn run_with_workers(rt: HostRuntime) -> Result<(), Fail> {
+    for workers in [1, 4, 16] {
+        let outcome = tells(rt, rt.alloc(), MOVE, workers, MOVED)?;
+        // Each replica runs the first request at one node, and the second one at two.
+        same(&rt, outcome.begun >= 9, true);
+        let Ran::Kv(book) = &outcome.book else {
+            return Err(Fail::new("a book of numbers by key"));
+        };
+        for replica in 0..REPLICAS {
+            same(&rt, book.world().peek(replica, &key(1)), Some(6));
+            same(&rt, book.world().peek(replica, &key(2)), Some(4));
+        }
+        let begins = matches!(book.events().get(2), Some(Event::At(_, Act::Close)));
+        same(&rt, begins, true);
+    }
+    Ok(())
+}
+
+#[test]
+fn no_epochs_and_empty_ones(rt: HostRuntime) -> Result<(), Fail> {
+    let none = r#"{"partitions":1,"app":"kv","epochs":[]}"#;
+    let one = r#"{"partitions":3,"app":"stock","epochs":[[]]}"#;
+    let three =
+        r#"{"partitions":2,"app":"kv","epochs":[[],[{"group":1,"txns":[{"client":7,"number":1,"op":["put",2,9]}]}],[]]}"#;
+    tells(rt, rt.alloc(), none, 2, "finished none\n")?;
+    tells(rt, rt.alloc(), one, 2, "finished 0\n")?;
+    tells(rt, rt.alloc(), three, 2, "1.0 7:1 done\nfinished 2\n")?;
+    Ok(())
+}
+
+#[test]
+fn groups_out_of_order(rt: HostRuntime) -> Result<(), Fail> {
+    let script =
+        r#"{"partitions":2,"app":"kv","epochs":[[{"group":1,"txns":[{"client":7,"number":1,"op":["put",2,9]}]},{"group":0,"txns":[{"client":8,"number":1,"op":["get",[2]]}]}]]}"#;
+    tells(
+        rt,
+        rt.alloc(),
+        script,
+        4,
+        "0.0 8:1 none\n0.1 7:1 done\nfinished 0\n",
+    )?;
+    Ok(())
+}
+
+#[test]
+fn woven_order(rt: HostRuntime) -> Result<(), Fail> {
+    let script =
+        r#"{"partitions":2,"app":"kv","woven_from":0,"epochs":[[{"group":0,"txns":[{"client":7,"number":1,"op":["put",1,5]},{"client":7,"number":2,"op":["get",[1]]}]},{"group":1,"txns":[{"client":8,"number":1,"op":["put",1,6]}]}]]}"#;
+    tells(
+        rt,
+        rt.alloc(),
+        script,
+        4,
+        "0.0 7:1 done\n0.1 8:1 done\n0.2 7:2 value 6\nfinished 0\n",
+    )?;
+    Ok(())
+}
+
+#[test]
+fn order_and_settle(rt: HostRuntime) -> Result<(), Fail> {
+    let script = r#"{"partitions":1,"app":"stock","epochs":[[{"group":0,"txns":[
+        {"client":7,"number":1,"op":["additem",1,2,250]},
+        {"client":7,"number":2,"op":["additem",2,3,100]},
+        {"client":7,"number":3,"op":["open",9]},
+        {"client":7,"number":4,"op":["payin",9,1000000000000000]},
+        {"client":7,"number":5,"op":["payin",9,1]},
+        {"client":7,"number":6,"op":["order",9,50,[[1,2],[2,4]]]},
+        {"client":7,"number":7,"op":["order",9,50,[[1,2],[2,3]]]},
+        {"client":7,"number":8,"op":["settle",9],"reads":[[1,9],[3,50]],"writes":[[1,9],[3,50]]},
+        {"client":7,"number":9,"op":["balance",9]},
+        {"client":7,"number":10,"op":["settle",9],"reads":[[1,9],[3,50]],"writes":[[1,9],[3,50]]}]}]]}"#;
+    let text =
+        "0.0 7:1 done\n0.1 7:2 done\n0.2 7:3 done\n0.3 7:4 done\n0.4 7:5 limit\n0.5 7:6 short\n0.6 7:7 ordered 800\n0.7 7:8 settled 800\n0.8 7:9 cents 999999999999200\n0.9 7:10 nothingopen\nfinished 0\n";
+    tells(rt, rt.alloc(), script, 4, text)?;
+    Ok(())
+}
+
+#[test]
+fn repeated_payment(rt: HostRuntime) -> Result<(), Fail> {
+    let script =
+        r#"{"partitions":2,"app":"once","epochs":[[{"group":0,"txns":[{"client":7,"number":1,"op":["open",9]},{"client":7,"number":2,"op":["payin",9,100]}]}],[{"group":1,"txns":[{"client":7,"number":2,"op":["payin",9,100]},{"client":7,"number":3,"op":["balance",9]}]}]]}"#;
+    let text = "0.0 7:1 done\n0.1 7:2 done\n1.0 7:2 done\n1.1 7:3 cents 100\nfinished 1\n";
+    tells(rt, rt.alloc(), script, 4, text)?;
+    Ok(())
+}
