@@ -1,0 +1,76 @@
+//! Books side by side.
+use crate::books::KvBook;
+use calvin_app::{Kv, KvReply, KvRequest};
+use calvin_lock::QueueLocks;
+use calvin_node::Node;
+use calvin_node_packets::Packet;
+use calvin_store::{ColdRows, Rows};
+use calvin_types::{Key, Slot};
+
+type KvNode = Node<Kv, QueueLocks, ColdRows<u64>>;
+
+type KvPacket = Packet<KvRequest, u64, KvReply>;
+
+/// The keys, epochs and groups of the lives.
+const KEYS: [u64; 2] = [1, 2];
+
+const EPOCHS: u64 = 2;
+
+const GROUPS: u8 = 2;
+
+/// Whether two nodes have as many rows, the same under the keys of the lives, and the same of them hot.
+fn have_same_rows(one: &KvNode, other: &KvNode) -> bool {
+    for id in KEYS {
+        let key = Key { table: 0, id };
+        let (rows, others) = (one.rows(), other.rows());
+        if rows.get(&key) != others.get(&key) || rows.is_hot(&key) != others.is_hot(&key) {
+            return false;
+        }
+    }
+    one.rows().len() == other.rows().len() && one.rows().marked() == other.rows().marked()
+}
+
+/// Whether two nodes hold the same batches.
+fn hold_same_batches(one: &KvNode, other: &KvNode) -> bool {
+    for epoch in 0..EPOCHS {
+        for group in 0..GROUPS {
+            let slot = Slot { epoch, group };
+            if one.held(slot) != other.held(slot) {
+                return false;
+            }
+        }
+    }
+    true
+}
+
+/// Whether two nodes tell the same of themselves.
+fn tell_same(one: &KvNode, other: &KvNode) -> bool {
+    one.next_epoch() == other.next_epoch()
+        && one.queued() == other.queued()
+        && one.first_ready(None) == other.first_ready(None)
+        && one.stands_at() == other.stands_at()
+        && hold_same_batches(one, other)
+        && have_same_rows(one, other)
+}
+
+/// Whether two packets go the same way.
+fn go_same_way(one: &KvPacket, other: &KvPacket) -> bool {
+    one.from == other.from && one.to == other.to
+}
+
+/// Whether two books have the same events, as many packets that go the same ways, and nodes that tell the same of themselves.
+pub(crate) fn is_alike(one: &KvBook, other: &KvBook) -> bool {
+    let (world, beside) = (one.world(), other.world());
+    one.events() == other.events()
+        && world.packets().len() == beside.packets().len()
+        && world
+            .packets()
+            .iter()
+            .zip(beside.packets().iter())
+            .all(|(one, other)| go_same_way(one, other))
+        && world
+            .nodes()
+            .iter()
+            .zip(beside.nodes().iter())
+            .all(|(one, other)| tell_same(one, other))
+}
