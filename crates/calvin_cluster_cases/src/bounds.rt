@@ -1,10 +1,13 @@
 //! How many workers there can be.
 ghost use Rattle.std.specs.Prelude.{◌≡◌};
 
-use crate::stores::{KvCluster, ask, new_book, request, same};
-use calvin_app::{Answer, Kv, KvReply, KvRequest};
+use crate::gates::{Counting, Counts, Holds};
+use crate::giving_back::give_back;
+use crate::running::{Calls, Case, ONE_NODE, run};
+use crate::stores::{KvCluster, new_book, same};
+use calvin_app::{Kv, KvRequest};
 use calvin_book::StoreBook;
-use calvin_cluster::{Founding, Open, Opened};
+use calvin_cluster::{Founding, Opened};
 use calvin_types::Fault;
 use calvin_world::Event;
 use std::alloc::Global;
@@ -15,17 +18,18 @@ use std::test::Fail;
 use std::thread::Threads;
 
 /// A cluster with so many workers isn't opened, and the book is handed back.
-fn check_refused<J: Founding + 'static, R: Threads + Wait + Abort + Copy + Send + Sync + 'static>(
+fn refuse_over<J: Founding + 'static, R: Threads + Wait + Abort + Copy + Send + Sync + 'static>(
     rt: R,
     alloc: Global,
     opened: Opened<Event<KvRequest>>,
     book: StoreBook<Kv>,
+    gate: Counting,
     workers: usize,
 ) -> Result<StoreBook<Kv>, Fault>
     requires opened { opened ≡ J.book }
     requires config { book.config ≡ J.config }
 {
-    match KvCluster::<Open, J>::open(rt, alloc, Kv, opened, book, Open, workers) {
+    match KvCluster::<J>::open(rt, alloc, Kv, opened, book, gate, workers) {
         Ok(_cluster) => Err(Fault::NotEnded),
         Err((fault, book)) => {
             same(&rt, fault, Fault::BadWorkers);
@@ -34,46 +38,38 @@ fn check_refused<J: Founding + 'static, R: Threads + Wait + Abort + Copy + Send 
     }
 }
 
-fn check_opened<J: Founding + 'static, R: Threads + Wait + Abort + Copy + Send + Sync + 'static>(
+fn refuse<R: Threads + Wait + Abort + Copy + Send + Sync + 'static>(
     rt: R,
     alloc: Global,
-    opened: Opened<Event<KvRequest>>,
-    book: StoreBook<Kv>,
     workers: usize,
-) -> Result<(), Fault>
-    requires opened { opened ≡ J.book }
-    requires config { book.config ≡ J.config }
-{
-    let cluster = match KvCluster::<Open, J>::open(rt, alloc, Kv, opened, book, Open, workers) {
-        Ok(cluster) => cluster,
-        Err((fault, _book)) => return Err(fault),
+) -> Result<(), Fault> {
+    let gate = Counting {
+        holds: Holds::Nobody,
+        counts: Counts::new(alloc)?,
     };
-    let done = Answer::Reply(KvReply::Done);
-    same(
-        &rt,
-        ask(&rt, &cluster, request(7, 1, KvRequest::Put(1, 5)))?,
-        done,
-    );
-    let _stopped = cluster.stop(&rt)?;
+    let book = new_book(alloc, 1, 1)?;
+    let book = refuse_over::<Brand, _>(rt, alloc, Opened::new(), book, gate, workers)?;
+    give_back(book);
     Ok(())
 }
 
 #[test]
 fn no_workers(rt: HostRuntime) -> Result<(), Fail> {
-    let book = new_book(rt.alloc(), 1, 1)?;
-    let _book = check_refused::<Brand, _>(rt, rt.alloc(), Opened::new(), book, 0)?;
-    Ok(())
+    Ok(refuse(rt, rt.alloc(), 0)?)
 }
 
 #[test]
 fn too_many_workers(rt: HostRuntime) -> Result<(), Fail> {
-    let book = new_book(rt.alloc(), 1, 1)?;
-    let _book = check_refused::<Brand, _>(rt, rt.alloc(), Opened::new(), book, 17)?;
-    Ok(())
+    Ok(refuse(rt, rt.alloc(), 17)?)
 }
 
 #[test]
 fn sixteen_workers(rt: HostRuntime) -> Result<(), Fail> {
-    let book = new_book(rt.alloc(), 1, 1)?;
-    Ok(check_opened::<Brand, _>(rt, rt.alloc(), Opened::new(), book, 16)?)
+    let case = Case {
+        workers: 16,
+        calls: Calls::PutOnKeys(1),
+        runs: Some(1),
+        ..ONE_NODE
+    };
+    Ok(run(rt, rt.alloc(), &case)?)
 }

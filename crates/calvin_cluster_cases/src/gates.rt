@@ -1,4 +1,4 @@
-//! Gates that hold workers until others have come.
+//! A gate that holds workers until others have come.
 use calvin_cluster::Gate;
 use calvin_types::{Fault, NodeId, Place};
 use std::alloc::Global;
@@ -18,7 +18,9 @@ pub(crate) struct Counts {
     begun: AtomicU64,
     /// and how many were run.
     done: AtomicU64,
-    /// How many were let go though those whom they waited for hadn't come.
+    /// How often the caller let the gate go on.
+    let_go: AtomicU64,
+    /// How many were let through though what they waited for hadn't come.
     given_up: AtomicU64,
 }
 
@@ -27,6 +29,7 @@ impl Counts {
         let counts = Counts {
             begun: AtomicU64::new(0),
             done: AtomicU64::new(0),
+            let_go: AtomicU64::new(0),
             given_up: AtomicU64::new(0),
         };
         Ok(Arc::new(alloc, counts)?)
@@ -40,8 +43,14 @@ impl Counts {
         self.given_up.load(Ordering::SeqCst)
     }
 
-    fn give_up(&self) {
-        self.given_up.fetch_add(1, Ordering::SeqCst);
+    /// Waits until a request has come to the gate, and says whether one did within the limit.
+    pub fn has_begun(&self) -> bool {
+        has_come(&self.begun, 1)
+    }
+
+    /// The gate may go on.
+    pub fn let_go(&self) {
+        self.let_go.fetch_add(1, Ordering::SeqCst);
     }
 }
 
@@ -58,41 +67,52 @@ fn has_come(count: &AtomicU64, wanted: u64) -> bool {
     false
 }
 
-/// Holds the first request until another one was run.
+/// Whom a gate holds.
+#[derive(Clone, Copy, Debug, PartialEq, Eq)]
+pub(crate) enum Holds {
+    Nobody,
+    /// The first request until another one was run.
+    FirstUntilAnother,
+    /// The first request until the caller lets the gate go on.
+    FirstUntilLetGo,
+    /// Each request until its group of so many have come: of four the first to the fourth, the fifth to the eighth, and so on.
+    Groups(u64),
+}
+
+/// A gate, and what it counts.
 #[derive(Drop)]
-pub(crate) struct UntilAnother {
+pub(crate) struct Counting {
+    pub holds: Holds,
     pub counts: Arc<Counts>,
 }
 
-impl Gate for UntilAnother {
+impl Counting {
+    /// Holds a request, the first being number 0, and says whether what it waited for has come.
+    fn is_let_through(&self, number: u64) -> bool {
+        match self.holds {
+            Holds::Nobody => true,
+            Holds::FirstUntilAnother => number > 0 || has_come(&self.counts.done, 1),
+            Holds::FirstUntilLetGo => number > 0 || has_come(&self.counts.let_go, 1),
+            Holds::Groups(size) => has_come(&self.counts.begun, end_of_group(number, size)),
+        }
+    }
+}
+
+/// How many requests have come once the group of a request is full.
+fn end_of_group(number: u64, size: u64) -> u64 {
+    let groups_before = number.checked_div(size).unwrap_or(0);
+    groups_before.saturating_add(1).saturating_mul(size)
+}
+
+impl Gate for Counting {
     fn before(&self, _id: NodeId, _place: Place) {
         let number = self.counts.begun.fetch_add(1, Ordering::SeqCst);
-        if number == 0 && !has_come(&self.counts.done, 1) {
-            self.counts.give_up();
+        if !self.is_let_through(number) {
+            self.counts.given_up.fetch_add(1, Ordering::SeqCst);
         }
     }
 
     fn after(&self, _id: NodeId, _place: Place) {
         self.counts.done.fetch_add(1, Ordering::SeqCst);
     }
-}
-
-/// Holds each request until four have come: the first to the fourth, the fifth to the eighth, and so on.
-#[derive(Drop)]
-pub(crate) struct InFours {
-    pub counts: Arc<Counts>,
-}
-
-impl Gate for InFours {
-    fn before(&self, _id: NodeId, _place: Place) {
-        let number = self.counts.begun.fetch_add(1, Ordering::SeqCst);
-        if !has_come(
-            &self.counts.begun,
-            (number / 4).saturating_add(1).saturating_mul(4),
-        ) {
-            self.counts.give_up();
-        }
-    }
-
-    fn after(&self, _id: NodeId, _place: Place) {}
 }

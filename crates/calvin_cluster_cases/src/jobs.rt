@@ -1,100 +1,135 @@
 //! Requests are run side by side.
-ghost use Rattle.std.specs.Prelude.{◌≡◌};
-
-use crate::gates::{Counts, InFours, UntilAnother};
-use crate::stores::{KvCluster, fault_of, new_book, node, request, same, submit};
+use crate::gates::{Counts, Holds};
+use crate::running::{Calls, Case, ONE_NODE, run};
+use crate::stores::{DONE, Handed, KvCluster, ask_after, hear, node, put, request, same, submit};
 use calvin_app::{Answer, Kv, KvReply, KvRequest};
-use calvin_book::StoreBook;
-use calvin_cluster::{Founding, Opened};
+use calvin_cluster::{Founding, Ticket};
 use calvin_types::{Fault, Few, Key, KeySet};
-use calvin_world::Event;
 use std::alloc::Global;
-use std::marker::Brand;
 use std::process::Abort;
-use std::sync::{Arc, Wait};
+use std::sync::Wait;
 use std::test::Fail;
-use std::thread::Threads;
 
-const DONE: Answer<KvReply> = Answer::Reply(KvReply::Done);
+/// Waits for the answer to a put: it is done.
+fn hear_done<J: Founding, R: Wait + Abort>(
+    rt: &R,
+    cluster: &KvCluster<J>,
+    ticket: Ticket<Kv, J>,
+) -> Result<Handed<J>, Fault> {
+    let handed = hear(rt, cluster, ticket)?;
+    same(rt, handed.answer(), Some(DONE));
+    Ok(handed)
+}
 
-/// Two puts are submitted before either is waited for. The gate holds the first that comes until the other one was run. A get with
-/// what the caller was told shows the first put's write.
-fn check_two<J: Founding + 'static, R: Threads + Wait + Abort + Copy + Send + Sync + 'static>(
-    rt: R,
+/// Two puts are submitted before either is waited for. A get with what the caller was told shows the first put's write.
+pub(crate) fn put_two<J: Founding, R: Wait + Abort>(
+    rt: &R,
     alloc: Global,
-    opened: Opened<Event<KvRequest>>,
-    book: StoreBook<Kv>,
-) -> Result<(), Fault>
-    requires opened { opened ≡ J.book }
-    requires config { book.config ≡ J.config }
-{
-    let counts = Counts::new(alloc)?;
-    let gate = UntilAnother {
-        counts: Arc::try_clone(&counts)?,
-    };
-    let cluster = match KvCluster::<UntilAnother, J>::open(rt, alloc, Kv, opened, book, gate, 2) {
-        Ok(cluster) => cluster,
-        Err((fault, _book)) => return Err(fault),
-    };
-    let first = submit(&rt, &cluster, node(0), request(7, 1, KvRequest::Put(1, 5)))?;
-    let second = submit(&rt, &cluster, node(0), request(7, 2, KvRequest::Put(2, 6)))?;
-    let (answer, told) = cluster.wait(&rt, &first)?;
-    same(&rt, answer, DONE);
-    same(&rt, cluster.wait(&rt, &second)?.0, DONE);
+    cluster: &KvCluster<J>,
+) -> Result<Vec<Handed<J>>, Fault> {
+    let mut handed = Vec::with_capacity(alloc, 3)?;
+    let first = submit(rt, cluster, node(0), put(1, 1, 5))?;
+    let second = submit(rt, cluster, node(0), put(2, 2, 6))?;
+    let first = hear_done(rt, cluster, first)?;
+    let second = hear_done(rt, cluster, second)?;
     let keys = KeySet::from_slice(&[Key { table: 0, id: 1 }])?;
-    let later = cluster.submit(&rt, &told, node(0), request(7, 3, KvRequest::Get(keys)))?;
+    let get = ask_after(rt, cluster, &first, request(7, 3, KvRequest::Get(keys)))?;
     let mut values = Few::new();
     values.push(Some(5));
-    same(
-        &rt,
-        cluster.wait(&rt, &later)?.0,
-        Answer::Reply(KvReply::Values(values)),
-    );
-    let stopped = cluster.stop(&rt)?;
-    stopped.ticket(&later);
-    same(&rt, (counts.begun(), counts.given_up()), (3, 0));
-    Ok(())
+    let shown = Answer::Reply(KvReply::Values(values));
+    same(rt, get.answer(), Some(shown));
+    handed.push(first)?;
+    handed.push(second)?;
+    handed.push(get)?;
+    Ok(handed)
 }
 
+/// One caller submits puts on so many distinct keys at one node, and then waits for each.
+pub(crate) fn put_on_keys<J: Founding, R: Wait + Abort>(
+    rt: &R,
+    alloc: Global,
+    cluster: &KvCluster<J>,
+    keys: u32,
+) -> Result<Vec<Handed<J>>, Fault> {
+    let mut tickets = Vec::new(alloc);
+    for number in 0..keys {
+        let txn = put(number, u64::from(number), 1);
+        tickets.push(submit(rt, cluster, node(0), txn)?)?;
+    }
+    let mut handed = Vec::new(alloc);
+    for ticket in tickets {
+        handed.push(hear_done(rt, cluster, ticket)?)?;
+    }
+    Ok(handed)
+}
+
+/// While the gate holds the first put, another one is submitted, which takes the lock. Then the gate lets both through.
+pub(crate) fn put_meanwhile<J: Founding, R: Wait + Abort>(
+    rt: &R,
+    alloc: Global,
+    cluster: &KvCluster<J>,
+    counts: &Counts,
+) -> Result<Vec<Handed<J>>, Fault> {
+    let mut tickets = Vec::with_capacity(alloc, 2)?;
+    tickets.push(submit(rt, cluster, node(0), put(1, 1, 5))?)?;
+    same(rt, counts.has_begun(), true);
+    tickets.push(submit(rt, cluster, node(0), put(2, 2, 6))?)?;
+    counts.let_go();
+    let mut handed = Vec::new(alloc);
+    for ticket in tickets {
+        handed.push(hear_done(rt, cluster, ticket)?)?;
+    }
+    Ok(handed)
+}
+
+/// The gate holds the first request that comes until the other one was run.
 #[test]
 fn two_jobs_at_once(rt: HostRuntime) -> Result<(), Fail> {
-    let book = new_book(rt.alloc(), 1, 1)?;
-    Ok(check_two::<Brand, _>(rt, rt.alloc(), Opened::new(), book)?)
+    let case = Case {
+        workers: 2,
+        holds: Holds::FirstUntilAnother,
+        calls: Calls::PutTwo,
+        runs: Some(3),
+        ..ONE_NODE
+    };
+    Ok(run(rt, rt.alloc(), &case)?)
 }
 
-/// One caller submits 40 puts on distinct keys, and then waits for each. The gate holds each until its group of four is full.
-fn check_fours<J: Founding + 'static, R: Threads + Wait + Abort + Copy + Send + Sync + 'static>(
-    rt: R,
-    alloc: Global,
-    opened: Opened<Event<KvRequest>>,
-    book: StoreBook<Kv>,
-) -> Result<(), Fault>
-    requires opened { opened ≡ J.book }
-    requires config { book.config ≡ J.config }
-{
-    let counts = Counts::new(alloc)?;
-    let gate = InFours {
-        counts: Arc::try_clone(&counts)?,
-    };
-    let cluster = match KvCluster::<InFours, J>::open(rt, alloc, Kv, opened, book, gate, 4) {
-        Ok(cluster) => cluster,
-        Err((fault, _book)) => return Err(fault),
-    };
-    let mut tickets = Vec::new(alloc);
-    for number in 1..=40 {
-        let put = request(7, number, KvRequest::Put(u64::from(number), 1));
-        tickets.push(submit(&rt, &cluster, node(0), put)?)?;
-    }
-    for ticket in &tickets {
-        same(&rt, cluster.wait(&rt, ticket)?.0, DONE);
-    }
-    same(&rt, fault_of(cluster.stop(&rt)), None);
-    same(&rt, (counts.begun(), counts.given_up()), (40, 0));
-    Ok(())
-}
-
+/// The gate holds each of 40 puts until its group of four is full.
 #[test]
 fn four_at_a_time(rt: HostRuntime) -> Result<(), Fail> {
-    let book = new_book(rt.alloc(), 1, 1)?;
-    Ok(check_fours::<Brand, _>(rt, rt.alloc(), Opened::new(), book)?)
+    let case = Case {
+        workers: 4,
+        holds: Holds::Groups(4),
+        calls: Calls::PutOnKeys(40),
+        runs: Some(40),
+        ..ONE_NODE
+    };
+    Ok(run(rt, rt.alloc(), &case)?)
+}
+
+/// The gate holds a request of each of two nodes until both have come: where one thread does all, the second one never comes.
+#[test]
+fn one_thread_does_all(rt: HostRuntime) -> Result<(), Fail> {
+    let case = Case {
+        partitions: 2,
+        workers: 2,
+        holds: Holds::Groups(2),
+        calls: Calls::PutOnKeys(2),
+        runs: Some(2),
+        ..ONE_NODE
+    };
+    Ok(run(rt, rt.alloc(), &case)?)
+}
+
+/// The gate holds a request until another one has been submitted: where requests are run under the lock, it never is.
+#[test]
+fn computes_under_the_lock(rt: HostRuntime) -> Result<(), Fail> {
+    let case = Case {
+        holds: Holds::FirstUntilLetGo,
+        calls: Calls::PutMeanwhile,
+        runs: Some(2),
+        ..ONE_NODE
+    };
+    Ok(run(rt, rt.alloc(), &case)?)
 }

@@ -13,9 +13,9 @@ mod halting;
 #[cfg(test)]
 mod jobs;
 #[cfg(test)]
-mod paying;
-#[cfg(test)]
 mod receipts;
+#[cfg(test)]
+mod running;
 #[cfg(test)]
 mod stores;
 

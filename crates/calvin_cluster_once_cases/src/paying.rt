@@ -1,7 +1,6 @@
 //! A payment that two callers submit.
 ghost use Rattle.std.specs.Prelude.{◌≡◌};
 
-use crate::stores::{node, same};
 use calvin_app::{Answer, App, View};
 use calvin_book::StoreBook;
 use calvin_cluster::{Founding, Open, Opened, StoreCluster, Told};
@@ -10,6 +9,7 @@ use calvin_stock::{Stock, StockReply, StockRequest, stock_once};
 use calvin_types::{Config, Fault, KeySet, NodeId, RequestId, Sets, Txn};
 use calvin_world::Event;
 use std::alloc::Global;
+use std::fmt::Debug;
 use std::marker::Brand;
 use std::process::Abort;
 use std::sync::Wait;
@@ -19,6 +19,21 @@ use std::thread::{Threads, map_indices};
 type PaidOnce = Once<Stock>;
 
 type PayCluster<J> = StoreCluster<PaidOnce, Open, J>;
+
+const DONE: Answer<StockReply> = Answer::Reply(StockReply::Done);
+
+/// Node (0, p).
+fn node(partition: u8) -> NodeId {
+    NodeId {
+        replica: 0,
+        partition,
+    }
+}
+
+/// Two values are the same; else the test fails, and shows both.
+fn same<T: PartialEq + Debug + Drop>(rt: &impl Abort, found: T, wanted: T) {
+    assert_eq!(rt; found, wanted);
+}
 
 /// A request of client 7, whose number has its effect once.
 fn request(
@@ -52,6 +67,33 @@ fn ask<J: Founding + 'static, R: Wait>(
     Ok(answer)
 }
 
+/// Two callers submit the same payment at two nodes: both are told that it is done, and the balance has it once.
+fn pay_twice<J: Founding + 'static, R: Threads + Wait + Abort + Copy + Send + Sync + 'static>(
+    rt: R,
+    alloc: Global,
+    cluster: &PayCluster<J>,
+) -> Result<(), Fault> {
+    let opening = StockRequest::Open { customer: 9 };
+    same(&rt, ask(&rt, cluster, node(0), 1, opening)?, DONE);
+    let payment = StockRequest::PayIn {
+        customer: 9,
+        cents: 100,
+    };
+    let paid = map_indices(
+        &rt,
+        alloc,
+        2,
+        &|at| ask(&rt, cluster, node(at.min(255) as u8), 2, payment),
+    )?;
+    for answer in paid {
+        same(&rt, answer?, DONE);
+    }
+    let asking = StockRequest::Balance { customer: 9 };
+    let balance = ask(&rt, cluster, node(0), 3, asking)?;
+    same(&rt, balance, Answer::Reply(StockReply::Cents(100)));
+    Ok(())
+}
+
 fn check_payment<J: Founding + 'static, R: Threads + Wait + Abort + Copy + Send + Sync + 'static>(
     rt: R,
     alloc: Global,
@@ -65,42 +107,9 @@ fn check_payment<J: Founding + 'static, R: Threads + Wait + Abort + Copy + Send 
         Ok(cluster) => cluster,
         Err((fault, _book)) => return Err(fault),
     };
-    let done = Answer::Reply(StockReply::Done);
-    same(
-        &rt,
-        ask(
-            &rt,
-            &cluster,
-            node(0),
-            1,
-            StockRequest::Open { customer: 9 },
-        )?,
-        done,
-    );
-    let lent = &cluster;
-    let payment = StockRequest::PayIn {
-        customer: 9,
-        cents: 100,
-    };
-    let paid = map_indices(
-        &rt,
-        alloc,
-        2,
-        &|at| ask(&rt, lent, node(at.min(255) as u8), 2, payment),
-    )?;
-    for answer in paid {
-        same(&rt, answer?, done);
-    }
-    let balance = ask(
-        &rt,
-        &cluster,
-        node(0),
-        3,
-        StockRequest::Balance { customer: 9 },
-    )?;
-    same(&rt, balance, Answer::Reply(StockReply::Cents(100)));
+    let paid = pay_twice(rt, alloc, &cluster);
     let _stopped = cluster.stop(&rt)?;
-    Ok(())
+    paid
 }
 
 #[test]

@@ -1,4 +1,4 @@
-use Rattle.calvin_cluster_cases.proofs.paying.one_payment_two_callers.Given as goal
+use Rattle.calvin_cluster_once_cases.proofs.paying.one_payment_two_callers.Given as goal
 
 -- the history that was just opened, and the configuration of the book
 abbrev pub ghosts-check_payment-J-Naming : goal.ghosts-check_payment-J-Naming
