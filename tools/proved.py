@@ -7,9 +7,10 @@ from pathlib import Path
 ROOT = Path(__file__).resolve().parent.parent
 
 
-def program():
-    """Where the proved program of these sources is (tools/proved_program). Where it isn't there, the check fails and ends."""
-    run = subprocess.run([ROOT / "tools" / "proved_program"], stdout=subprocess.PIPE, text=True, check=False)
+def program(*words):
+    """Where the proved program of these sources is, or with the words `--tests CRATE` that of a crate's tests
+    (tools/proved_program). Where it isn't there, the check fails and ends."""
+    run = subprocess.run([ROOT / "tools" / "proved_program", *words], stdout=subprocess.PIPE, text=True, check=False)
     if run.returncode:
         print("0 passed, 1 failed")
         sys.exit(1)
