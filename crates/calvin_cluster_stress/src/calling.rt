@@ -19,7 +19,8 @@ pub(crate) struct Seen {
 }
 
 /// A caller submits its requests one after another, each with what it was told, and waits for each. It ends where the cluster has
-/// halted, or a request is refused since its node hasn't come as far as what was told: then it goes on with the next one.
+/// halted, which is an answer that is lost where nobody halts it; where a request is refused since its node hasn't come as far as
+/// what was told, it goes on with the next one.
 pub(crate) fn call<J: Founding + 'static, R: Wait>(
     rt: &R,
     alloc: Global,
@@ -37,7 +38,7 @@ pub(crate) fn call<J: Founding + 'static, R: Wait>(
         let before = told.epoch();
         let ticket = match cluster.submit(rt, &told, node_of(run, id), request_of(run.number, id)) {
             Ok(ticket) => ticket,
-            Err(Fault::Closed) => break,
+            Err(Fault::Closed) if run.halts.is_some() => break,
             Err(Fault::Stale) => continue,
             Err(fault) => return Err(fault),
         };
@@ -52,7 +53,7 @@ pub(crate) fn call<J: Founding + 'static, R: Wait>(
                 })?;
                 told = next;
             }
-            Err(Fault::Closed) => break,
+            Err(Fault::Closed) if run.halts.is_some() => break,
             Err(fault) => return Err(fault),
         }
     }
