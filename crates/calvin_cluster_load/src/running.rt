@@ -1,0 +1,136 @@
+//! A load is run.
+ghost use Rattle.std.specs.Prelude.{◌≡◌};
+
+use crate::gate::Slow;
+use calvin_app::{Kv, KvRequest};
+use calvin_book::StoreBook;
+use calvin_cluster::{Founding, Opened, StoreCluster, Ticket, Told};
+use calvin_types::{Config, Fault, KeySet, NodeId, RequestId, Sets, Txn};
+use calvin_world::Event;
+use std::alloc::Global;
+use std::marker::Brand;
+use std::sync::Wait;
+use std::thread::Threads;
+use std::time::{Clock, Duration};
+
+/// What is run: how many requests, how many of them are submitted before the first of these is waited for, by how many workers,
+/// how many microseconds each takes at the gate, and how large the store is.
+#[derive(Clone, Copy)]
+pub(crate) struct Load {
+    pub requests: u32,
+    pub ahead: u32,
+    pub workers: usize,
+    pub micros: u64,
+    pub partitions: u8,
+    pub replicas: u8,
+}
+
+type Loaded<G, J> = StoreCluster<Kv, G, J>;
+
+/// Where all requests are submitted.
+const DESK: NodeId = NodeId {
+    replica: 0,
+    partition: 0,
+};
+
+/// The request of a number, a put on a key of its own.
+fn request(number: u32) -> Txn<KvRequest> {
+    let args = KvRequest::Put(u64::from(number), 1);
+    let mut sets = Sets {
+        reads: KeySet::new(),
+        writes: KeySet::new(),
+    };
+    args.add_first_needs(&mut sets);
+    Txn {
+        id: RequestId { client: 7, number },
+        attempt: 1,
+        args,
+        sets,
+    }
+}
+
+/// Submits the requests from one number on and before another.
+fn submit_all<R: Wait + Clock + Send + Sync + Drop, J: Founding>(
+    rt: &R,
+    alloc: Global,
+    cluster: &Loaded<Slow<R>, J>,
+    first: u32,
+    last: u32,
+) -> Result<Vec<Ticket<Kv, J>>, Fault> {
+    let mut tickets = Vec::new(alloc);
+    for number in first..last {
+        tickets.push(cluster.submit(rt, &Told::new(), DESK, request(number))?)?;
+    }
+    Ok(tickets)
+}
+
+/// Submits these requests, waits for each, and says how many were answered.
+fn ask_all<R: Wait + Clock + Send + Sync + Drop, J: Founding>(
+    rt: &R,
+    alloc: Global,
+    cluster: &Loaded<Slow<R>, J>,
+    first: u32,
+    last: u32,
+) -> Result<u32, Fault> {
+    let mut answered: u32 = 0;
+    for ticket in &submit_all(rt, alloc, cluster, first, last)? {
+        let _heard = cluster.wait(rt, ticket)?;
+        answered = answered.saturating_add(1);
+    }
+    Ok(answered)
+}
+
+/// One caller's requests, so many at a time. Says how many were answered.
+fn call<R: Wait + Clock + Send + Sync + Drop, J: Founding>(
+    rt: &R,
+    alloc: Global,
+    cluster: &Loaded<Slow<R>, J>,
+    load: &Load,
+) -> Result<u32, Fault> {
+    let mut next = 0;
+    let mut answered: u32 = 0;
+    for _ in 0..load.requests {
+        let last = load.ahead.max(1).saturating_add(next).min(load.requests);
+        answered = ask_all(rt, alloc, cluster, next, last)?.saturating_add(answered);
+        next = last;
+    }
+    Ok(answered)
+}
+
+fn run_over<J, R>(
+    rt: R,
+    alloc: Global,
+    opened: Opened<Event<KvRequest>>,
+    book: StoreBook<Kv>,
+    load: &Load,
+) -> Result<u32, Fault>
+where
+    J: Founding + 'static,
+    R: Threads + Wait + Clock + Copy + Send + Sync + Drop + 'static,
+    requires opened { opened ≡ J.book }
+    requires config { book.config ≡ J.config }
+{
+    let gate = Slow {
+        rt,
+        time: Duration::from_micros(load.micros),
+    };
+    let workers = load.workers;
+    let cluster = match Loaded::<Slow<R>, J>::open(rt, alloc, Kv, opened, book, gate, workers) {
+        Ok(cluster) => cluster,
+        Err((fault, _book)) => return Err(fault),
+    };
+    let answered = call(&rt, alloc, &cluster, load);
+    let _stopped = cluster.stop(&rt)?;
+    answered
+}
+
+/// Runs a load on a new store, and says how many requests were answered.
+pub(crate) fn run<R: Threads + Wait + Clock + Copy + Send + Sync + Drop + 'static>(
+    rt: R,
+    alloc: Global,
+    load: &Load,
+) -> Result<u32, Fault> {
+    let config = Config::new(load.partitions, load.replicas)?;
+    let book = StoreBook::<Kv>::new(alloc, &config, Kv)?;
+    run_over::<Brand, _>(rt, alloc, Opened::new(), book, load)
+}
