@@ -1,0 +1,5 @@
+pub mod Splits
+mod Options
+mod Reading
+mod Headings
+mod Additions

@@ -1,0 +1,10 @@
+//! What is left of a journal that can't go on.
+use calvin_journal_log::{JournalFault, Log};
+
+/// Why a journal can't go on, and its log. The journal is gone: what a refused call left of the file is found by opening it
+/// again.
+#[derive(Drop)]
+pub struct Refused<L: Log + Drop> {
+    pub fault: JournalFault,
+    pub log: L,
+}

@@ -1,0 +1,4 @@
+pub mod Beginnings
+pub mod Disks
+pub mod Faults
+pub mod Memory

@@ -1,0 +1,3 @@
+mod Joins
+pub mod Wrapped
+mod Written
