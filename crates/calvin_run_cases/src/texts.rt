@@ -34,6 +34,14 @@ fn run_with_workers(rt: HostRuntime) -> Result<(), Fail> {
     Ok(())
 }
 
+/// Caught here: an engine that has no cluster run the script, and tells the same text. None of its requests comes to the gate.
+#[test]
+fn run_opens_no_cluster(rt: HostRuntime) -> Result<(), Fail> {
+    let outcome = tells(rt, rt.alloc(), MOVE, 2, MOVED)?;
+    same(&rt, outcome.begun >= 9, true);
+    Ok(())
+}
+
 #[test]
 fn no_epochs_and_empty_ones(rt: HostRuntime) -> Result<(), Fail> {
     let none = r#"{"partitions":1,"app":"kv","epochs":[]}"#;
