@@ -76,7 +76,7 @@ impl<Row: Copy> Writes<Row> {
         self.pairs.len()
     }
 
-    /// The key with `i` keys before it, and its row.
+    /// The key with `i` keys before it, and its row: `i` is below `len()`.
     pub fn at(&self, i: usize) -> (Key, Row)
         requires { i < length self.now }
         ensures { slice_get self.now i ≡ Some result }

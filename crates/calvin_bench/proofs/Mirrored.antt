@@ -25,7 +25,7 @@ use Rattle.calvin_sched.specs.Steps.{Serving, admit, admitted, begin, begun_turn
 use Rattle.calvin_bench.specs.Turns.{Begins, Receives, Finishes}
 use Rattle.calvin_bench.specs.Lives as lives
 use Rattle.calvin_bench.specs.Lives.{Node, World, Event, NodeHappens, NodeStep}
-use Rattle.calvin_bench.specs.Steps.{Part, put_part, at_part, calling, admit_next, begin_at, served_in, receive, finish_at, step, Ran, IsSerialAt}
+use Rattle.calvin_bench.specs.Steps.{Part, put_part, at_part, calling, admit_next, begin_at, receive, receive_from, finish_at, step, Ran, IsSerialAt}
 use Rattle.calvin_bench.specs.declared.step.Step.{Step}
 use Rattle.calvin_bench.specs.declared.step.Step.TheVariants as the
 use Rattle.calvin_bench.specs.declared.step.Outcome.{Outcome}
@@ -182,12 +182,10 @@ module _ {Args Row Reply : Type 0} (m : Meaning Args Row Reply) (count : ℕ) (l
       subst (λ (r : lives.Reads Row). WorldKeeps m count empty law (world parts (mirrored.reads ++ r ∷ []) (mirrored.replies ++ [])))
       (λ i. record { place = q; from = ((mirrored.numbered from z there).0 i).partition; rows = sym began.1 i }) shown
 
-  reads_mirrored : (parts : List (Part Args Row)) (p from : ℕ) (q : Place) (mirrored : Mirrored parts) (x y : Part Args Row) → slice_get parts p ≡ Some x → (out : Outcome Row Reply)
-      → (o : Option (Part Args Row)) → slice_get parts from ≡ o → (r : Result (Rows Row) Fault) → served_in q o ≡ r → receive from q r x ≡ Does y out → Mirrored (slice_set parts p y)
-  reads_mirrored parts p from q mirrored x y there out None is (Err f) served e = absurd (refuses_not e)
-  reads_mirrored parts p from q mirrored x y there out None is (Ok rows) served e = absurd (cc)
-  reads_mirrored parts p from q mirrored x y there out (Some z) is (Err f) served e = absurd (refuses_not e)
-  reads_mirrored parts p from q mirrored x y there out (Some z) is (Ok rows) served e =
+  rows_mirrored : (parts : List (Part Args Row)) (p from : ℕ) (q : Place) (mirrored : Mirrored parts) (x y : Part Args Row) → slice_get parts p ≡ Some x → (out : Outcome Row Reply)
+      → (z : Part Args Row) → slice_get parts from ≡ Some z → (r : Result (Rows Row) Fault) → served_at (turn_at z.scheduler q) ≡ r → receive from q r x ≡ Does y out → Mirrored (slice_set parts p y)
+  rows_mirrored parts p from q mirrored x y there out z is (Err f) served e = absurd (refuses_not e)
+  rows_mirrored parts p from q mirrored x y there out z is (Ok rows) served e =
       let called = calling_does x (λ _. Received) (on_reads x.here q from rows x.scheduler) y out e in
       let read : lives.Reads Row = record { place = q; from = from; rows = rows } in
       let asked : Mirrored parts = record { reads = mirrored.reads ++ read ∷ []; replies = mirrored.replies ++ []; keeps = served_mirrored parts from q mirrored z is (turn_at z.scheduler q) refl rows served; numbered = mirrored.numbered } in
@@ -198,6 +196,11 @@ module _ {Args Row Reply : Type 0} (m : Meaning Args Row Reply) (count : ℕ) (l
         numbered = renumbered parts mirrored p x y there (ap (λ z. z.here) called.next) (ap (λ z. z.scheduler.opened_from) called.next ∙ ap (λ (z : Scheduling Args Row). z.opened_from) received.now);
       }
 
+  reads_mirrored : (parts : List (Part Args Row)) (p from : ℕ) (q : Place) (mirrored : Mirrored parts) (x y : Part Args Row) → slice_get parts p ≡ Some x → (out : Outcome Row Reply)
+      → (o : Option (Part Args Row)) → slice_get parts from ≡ o → receive_from from q o x ≡ Does y out → Mirrored (slice_set parts p y)
+  reads_mirrored parts p from q mirrored x y there out None is e = absurd (refuses_not e)
+  reads_mirrored parts p from q mirrored x y there out (Some z) is e = rows_mirrored parts p from q mirrored x y there out z is (served_at (turn_at z.scheduler q)) refl e
+
   step_mirrored : (parts : List (Part Args Row)) (e : Step) (new : List (Part Args Row)) (out : Outcome Row Reply) → Mirrored parts → step m order parts e ≡ Does new out → Gives new e out
   step_mirrored parts (the.Admit p) new out mirrored e =
       let at = at_does parts p (λ x. admit_next x (slice_get order x.admitted)) new out (slice_get parts p) refl e in
@@ -206,8 +209,8 @@ module _ {Args Row Reply : Type 0} (m : Meaning Args Row Reply) (count : ℕ) (l
       let at = at_does parts p (begin_at q) new out (slice_get parts p) refl e in
       subst (λ ps. Gives ps (the.Begin p q) out) (sym at.now) (begin_mirrored parts p q mirrored at.old at.next at.there out at.does)
   step_mirrored parts (the.Reads p from q) new out mirrored e =
-      let at = at_does parts p (receive from q (served_in q (slice_get parts from))) new out (slice_get parts p) refl e in
-      (subst Mirrored (sym at.now) (reads_mirrored parts p from q mirrored at.old at.next at.there out (slice_get parts from) refl (served_in q (slice_get parts from)) refl at.does), tt)
+      let at = at_does parts p (receive_from from q (slice_get parts from)) new out (slice_get parts p) refl e in
+      (subst Mirrored (sym at.now) (reads_mirrored parts p from q mirrored at.old at.next at.there out (slice_get parts from) refl at.does), tt)
   step_mirrored parts (the.Finish p q) new out mirrored e =
       let at = at_does parts p (finish_at m q) new out (slice_get parts p) refl e in
       subst (λ ps. Gives ps (the.Finish p q) out) (sym at.now) (finish_mirrored parts p q mirrored at.old at.next at.there out at.does)

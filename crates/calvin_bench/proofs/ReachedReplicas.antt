@@ -18,10 +18,10 @@ use Rattle.calvin_sched.specs.declared.phase.Phase.TheVariants.{Done}
 use Rattle.calvin_sched.specs.Scheduling.{Scheduling, Turn, is_before, is_done, is_finished, turn_at, turn_done, new_turn, with_turn}
 use Rattle.calvin_sched.specs.Progress.{left}
 use Rattle.calvin_sched.specs.Standing.{local_places}
-use Rattle.calvin_sched.specs.Steps.{Serving, admit, admitted, begin, begun_turn, on_reads, with_rows, finish}
+use Rattle.calvin_sched.specs.Steps.{Serving, admit, admitted, begin, begun_turn, on_reads, served_at, with_rows, finish}
 use Rattle.calvin_app.specs.Rows.{Rows}
 use Rattle.calvin_app.specs.declared.answer.Answer.{Answer}
-use Rattle.calvin_bench.specs.Steps.{Part, admit_next, begin_at, receive, finish_at, served_in, step, grows, first_parts, Ran}
+use Rattle.calvin_bench.specs.Steps.{Part, admit_next, begin_at, receive, receive_from, finish_at, step, grows, first_parts, Ran}
 use Rattle.calvin_bench.specs.declared.step.Step.{Step}
 use Rattle.calvin_bench.specs.declared.step.Step.TheVariants as the
 use Rattle.calvin_bench.specs.declared.step.Outcome.{Outcome}
@@ -134,6 +134,10 @@ module _ {Args Row Reply : Type 0} (m : Meaning Args Row Reply) (count : ℕ) (l
       let called = calling_does x (λ _. Received) (on_reads x.here q from rows x.scheduler) y out e in
       subst (λ (z : Part Args Row). is_done z.scheduler n ≡ true) (sym called.next) (received_done x.here x.scheduler q from rows called.scheduler called.given called.does n done)
 
+  received_later : (from : ℕ) (q : Place) (o : Option (Part Args Row)) (x y : Part Args Row) (out : Outcome Row Reply) → receive_from from q o x ≡ Does y out → StaysDone x.scheduler y.scheduler
+  received_later from q None x y out e n done = absurd (refuses_not e)
+  received_later from q (Some z) x y out e n done = receive_later from q (served_at (turn_at z.scheduler q)) x y out e n done
+
   step_later : (parts : List (Part Args Row)) → Mirrored m count law order parts → (e : Step) (new : List (Part Args Row)) (out : Outcome Row Reply) → step m order parts e ≡ Does new out → DoneLater parts new
   step_later parts mirrored (the.Admit p) new out e =
       let at = at_does parts p (λ x. admit_next x (slice_get order x.admitted)) new out (slice_get parts p) refl e in
@@ -144,8 +148,8 @@ module _ {Args Row Reply : Type 0} (m : Meaning Args Row Reply) (count : ℕ) (l
       subst (DoneLater parts) (sym at.now) (one_later parts p at.old at.next at.there
       (λ n done. subst (λ (z : Part Args Row). is_done z.scheduler n ≡ true) (sym called.next) (begun_done at.old.here at.old.scheduler q called.scheduler called.given called.does n done)))
   step_later parts mirrored (the.Reads p from q) new out e =
-      let at = at_does parts p (receive from q (served_in q (slice_get parts from))) new out (slice_get parts p) refl e in
-      subst (DoneLater parts) (sym at.now) (one_later parts p at.old at.next at.there (receive_later from q (served_in q (slice_get parts from)) at.old at.next out at.does))
+      let at = at_does parts p (receive_from from q (slice_get parts from)) new out (slice_get parts p) refl e in
+      subst (DoneLater parts) (sym at.now) (one_later parts p at.old at.next at.there (received_later from q (slice_get parts from) at.old at.next out at.does))
   step_later parts mirrored (the.Finish p q) new out e =
       let at = at_does parts p (finish_at m q) new out (slice_get parts p) refl e in
       let called = calling_does at.old (λ (e : Txn Args × Answer Reply). Answered e.1) (finish m at.old.here q at.old.scheduler) at.next out at.does in

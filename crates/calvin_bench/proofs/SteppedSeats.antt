@@ -1,6 +1,6 @@
 -- What a call at one partition makes of all of them.
-use Rattle.std.proofs.Common.{◌≡◌, ℕ, ◌≤◌, Bool, false, List, length, map, Some, None, Result, Ok, Err, refl, sym, ap, subst, ◌∙◌}
-use Rattle.std.specs.Prelude.{slice_get, slice_set}
+use Rattle.std.proofs.Common.{◌≡◌, ℕ, ◌≤◌, Bool, true, false, List, length, map, Option, Some, None, Result, Ok, Err, refl, sym, ap, subst, ◌∙◌}
+use Rattle.std.specs.Prelude.{if◌then◌else◌, slice_get, slice_set}
 use Rattle.std.proofs.lemmas.List.{length-map}
 use Rattle.std.proofs.lemmas.Option.{slice_get_past}
 use Rattle.calvin_types.specs.declared.fault.Fault.{Fault}
@@ -8,9 +8,11 @@ use Rattle.calvin_types.specs.declared.fault.Fault.TheVariants as fault
 use Rattle.calvin_types.specs.declared.place.Place.{Place}
 use Rattle.calvin_types.specs.Deeds.{Deed, Refuses, Does, Did}
 use Rattle.calvin_app.specs.Rows.{Rows}
-use Rattle.calvin_sched.specs.Scheduling.{turn_at}
-use Rattle.calvin_sched.specs.Steps.{served_at}
-use Rattle.calvin_bench.specs.Steps.{Part, put_part, at_part, tested_at, served_in}
+use Rattle.calvin_sched.specs.Keeping.{awaits_at}
+use Rattle.calvin_sched.specs.Scheduling.{Turn, turn_at, with_turn}
+use Rattle.calvin_sched.specs.Steps.{served_at, on_reads_at, with_rows}
+use Rattle.calvin_bench.specs.declared.step.Outcome.TheVariants.{Received}
+use Rattle.calvin_bench.specs.Steps.{Part, put_part, at_part, tested_at, calling, receive, receive_from}
 use Rattle.calvin_bench.specs.Replicas.{Seat, part_of, TellsAlike, AllTellAlike}
 use Rattle.calvin_bench.proofs.Lists.{set_each, set_same, set_map, get_map}
 
@@ -70,10 +72,29 @@ module _ {Args Row : Type 0} (seats : List (Seat Args Row)) (p : ℕ) where
     pub refused_quiet : {Out : Type 0} (deed : Part Args Row → Deed (Part Args Row) Out) (f : Fault) → deed (part_of x) ≡ Refuses f → Did false (Err f) (at_part parts p deed (slice_get parts p)) parts parts
     refused_quiet deed f e = subst (λ o. Did false (Err f) (at_part parts p deed o) parts parts) (sym here) (subst (λ d. Did false (Err f) (put_part parts p d) parts parts) (sym e) (refl, refl))
 
--- what another partition served
-module _ {Args Row : Type 0} (seats : List (Seat Args Row)) (from : ℕ) (q : Place) where
-  pub none_served : length seats ≤ from → served_in q (slice_get (map part_of seats) from) ≡ Err fault.NoNode
-  none_served past = ap (served_in q) (slice_get_past (map part_of seats) from (subst (λ n. n ≤ from) (sym (length-map seats part_of)) past))
+-- nothing that isn't awaited is taken
+not_taken : {Args Row : Type 0} (from : ℕ) (q : Place) (x : Part Args Row) (rows : Rows Row) (o : Option (Turn Args Row)) → awaits_at x.here o from ≡ false → on_reads_at x.here q from rows x.scheduler o ≡ Refuses fault.NotAwaited
+not_taken from q x rows None not = refl
+not_taken from q x rows (Some t) not = ap (λ (b : Bool). if b then Does (with_turn x.scheduler q (with_rows from rows t)) tt else Refuses fault.NotAwaited) not
 
-  pub served_there : (z : Seat Args Row) → slice_get seats from ≡ Some z → (r : Result (Rows Row) Fault) → r ≡ served_at (turn_at z.scheduler.scheduling q) → served_in q (slice_get (map part_of seats) from) ≡ r
-  served_there z there r is = ap (served_in q) (get_map part_of seats from z there) ∙ sym is
+-- what another partition served
+module _ {Args Row Reply : Type 0} (seats : List (Seat Args Row)) (from : ℕ) (q : Place) (x : Part Args Row) where
+  pub none_gives : length seats ≤ from → receive_from {Reply = Reply} from q (slice_get (map part_of seats) from) x ≡ Refuses fault.NoNode
+  none_gives past = ap (λ o. receive_from from q o x) (slice_get_past (map part_of seats) from (subst (λ n. n ≤ from) (sym (length-map seats part_of)) past))
+
+  gives : (z : Seat Args Row) → slice_get seats from ≡ Some z → (r : Result (Rows Row) Fault) → r ≡ served_at (turn_at z.scheduler.scheduling q) → receive_from {Reply = Reply} from q (slice_get (map part_of seats) from) x ≡ receive from q r x
+  gives z there r is = ap (λ o. receive_from from q o x) (get_map part_of seats from z there) ∙ ap (λ s. receive from q s x) (sym is)
+
+  refuses_unawaited : awaits_at x.here (turn_at x.scheduler q) from ≡ false → (r : Result (Rows Row) Fault) → receive {Reply = Reply} from q r x ≡ Refuses fault.NotAwaited
+  refuses_unawaited not (Err f) = ap (λ (b : Bool). Refuses (if b then f else fault.NotAwaited)) not
+  refuses_unawaited not (Ok rows) = ap (calling x (λ _. Received)) (not_taken from q x rows (turn_at x.scheduler q) not)
+
+  -- it isn't awaited; it is, but isn't served; it is served
+  pub not_awaited : (z : Seat Args Row) → slice_get seats from ≡ Some z → awaits_at x.here (turn_at x.scheduler q) from ≡ false → receive_from {Reply = Reply} from q (slice_get (map part_of seats) from) x ≡ Refuses fault.NotAwaited
+  not_awaited z there not = gives z there (served_at (turn_at z.scheduler.scheduling q)) refl ∙ refuses_unawaited not (served_at (turn_at z.scheduler.scheduling q))
+
+  pub not_served : (z : Seat Args Row) → slice_get seats from ≡ Some z → (f : Fault) → Err f ≡ served_at (turn_at z.scheduler.scheduling q) → awaits_at x.here (turn_at x.scheduler q) from ≡ true → receive_from {Reply = Reply} from q (slice_get (map part_of seats) from) x ≡ Refuses f
+  not_served z there f is awaited = gives z there (Err f) is ∙ ap (λ (b : Bool). Refuses (if b then f else fault.NotAwaited)) awaited
+
+  pub served_rows : (z : Seat Args Row) → slice_get seats from ≡ Some z → (rows : Rows Row) → Ok rows ≡ served_at (turn_at z.scheduler.scheduling q) → receive_from {Reply = Reply} from q (slice_get (map part_of seats) from) x ≡ receive from q (Ok rows) x
+  served_rows z there rows is = gives z there (Ok rows) is

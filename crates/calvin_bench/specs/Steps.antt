@@ -7,7 +7,7 @@
 --     first_parts count      nothing is admitted yet, and there are no rows
 --     IsSerialAt m count order e outcome      what a step gave is what the serial run has at its place
 --     RunsSerially m count order steps outcomes new      the theorem
-use Rattle.std.specs.Prelude.{◌≡◌, ℕ, ◌+◌, Bool, true, false, nat_lt, List, [], ◌∷◌, length, map, Option, Some, None, Result, Ok, Err, slice_get, slice_set}
+use Rattle.std.specs.Prelude.{◌≡◌, ℕ, ◌+◌, Bool, true, false, if◌then◌else◌, nat_lt, List, [], ◌∷◌, length, map, Option, Some, None, Result, Ok, Err, slice_get, slice_set}
 use Rattle.std.specs.List.{range_with_len, Contains}
 use Rattle.std.specs.FinMap.{empty}
 use Rattle.calvin_types.specs.declared.fault.Fault.{Fault}
@@ -22,6 +22,7 @@ use Rattle.calvin_app.specs.Meaning.{Meaning}
 use Rattle.calvin_app.specs.Rows.{Rows, view, part}
 use Rattle.calvin_app.specs.Serial.{rows_before, answers_by_place, writes_on}
 use Rattle.calvin_order.specs.Merged.{end_of}
+use Rattle.calvin_sched.specs.Keeping.{awaits_at}
 use Rattle.calvin_sched.specs.Scheduling.{Scheduling, opened, turn_at, local_writes}
 use Rattle.calvin_sched.specs.Standing.{local_places, stands}
 use Rattle.calvin_sched.specs.Steps.{admit, begin, on_reads, job, finish, served_at}
@@ -51,11 +52,6 @@ module _ {Args Row Out : Type 0} where
   calling x tell (Does s given) = Does (record x { scheduler = s }) (tell given)
 
 module _ {Args Row : Type 0} where
-  -- what a partition served
-  abbrev pub served_in : Place → Option (Part Args Row) → Result (Rows Row) Fault
-  served_in q None = Err fault.NoNode
-  served_in q (Some x) = served_at (turn_at x.scheduler q)
-
   abbrev pub tested_at : (Part Args Row → Bool) → Option (Part Args Row) → Bool
   tested_at test None = false
   tested_at test (Some x) = test x
@@ -81,9 +77,14 @@ module _ {Args Row Reply : Type 0} where
   abbrev pub begin_at : Place → Part Args Row → Deed (Part Args Row) (Outcome Row Reply)
   begin_at q x = calling x (λ s. Served s.rows) (begin x.here q x.scheduler)
 
+  -- what another partition served is taken where it is awaited
   abbrev pub receive : ℕ → Place → Result (Rows Row) Fault → Part Args Row → Deed (Part Args Row) (Outcome Row Reply)
-  receive from q (Err f) x = Refuses f
+  receive from q (Err f) x = Refuses (if awaits_at x.here (turn_at x.scheduler q) from then f else fault.NotAwaited)
   receive from q (Ok rows) x = calling x (λ _. Received) (on_reads x.here q from rows x.scheduler)
+
+  abbrev pub receive_from : ℕ → Place → Option (Part Args Row) → Part Args Row → Deed (Part Args Row) (Outcome Row Reply)
+  receive_from from q None x = Refuses fault.NoNode
+  receive_from from q (Some giver) x = receive from q (served_at (turn_at giver.scheduler q)) x
 
 module _ {Args Row Reply : Type 0} (m : Meaning Args Row Reply) where
   abbrev pub finish_at : Place → Part Args Row → Deed (Part Args Row) (Outcome Row Reply)
@@ -98,7 +99,7 @@ module _ {Args Row Reply : Type 0} (m : Meaning Args Row Reply) (order : Order A
   abbrev pub step : List (Part Args Row) → Step → Deed (List (Part Args Row)) (Outcome Row Reply)
   step parts (Admit p) = at_part parts p (λ x. admit_next x (slice_get order x.admitted)) (slice_get parts p)
   step parts (Begin p q) = at_part parts p (begin_at q) (slice_get parts p)
-  step parts (Reads p from q) = at_part parts p (receive from q (served_in q (slice_get parts from))) (slice_get parts p)
+  step parts (Reads p from q) = at_part parts p (receive_from from q (slice_get parts from)) (slice_get parts p)
   step parts (Finish p q) = at_part parts p (finish_at m q) (slice_get parts p)
 
   abbrev pub grows : List (Part Args Row) → Step → Bool

@@ -79,8 +79,9 @@ impl<A: App + Drop, L: Locks + Drop, S: Rows<A::Row> + Drop> OneReplica<A, L, S>
     /// Does steps one after another, and says how each ended: a refused step changes nothing, and the list goes on. Refused
     /// itself with `OutOfMemory` where there was no room for that: then no step was done. A step is refused with `NoNode`
     /// where a partition that it names isn't there, `Admit` with `NothingToLock` where the whole order is admitted,
-    /// `Reads` with `NotServed` where the other partition has not served the place, and else as the scheduler's call is.
-    /// Whatever was done before, what is promised holds after the steps and after each beginning of them.
+    /// `Reads` with `NotAwaited` where the partition awaits no rows of the other one for the place, else with `NotServed`
+    /// where that one has not served it, and else as the scheduler's call is. Whatever was done before, what is promised
+    /// holds after the steps and after each beginning of them.
     pub fn run(
         &mut self,
         steps: &[Step],

@@ -2,6 +2,7 @@
 ghost use Rattle.std.specs.Prelude.{◌≡◌, false, Ok, IfOk, IsOkUnless, slice_get};
 ghost use Rattle.calvin_types.specs.Deeds.{Did};
 ghost use Rattle.calvin_types.specs.Orders.{Rises};
+ghost use Rattle.calvin_sched.specs.Keeping.{awaits_at};
 ghost use Rattle.calvin_sched.specs.Scheduling.{turn_at};
 ghost use Rattle.calvin_sched.specs.Standing.{stands_at};
 ghost use Rattle.calvin_sched.specs.Steps as steps;
@@ -91,6 +92,13 @@ impl<A: App, L: Locks + Drop, S: Rows<A::Row> + Drop> Partition<A, L, S> {
         ensures { result ≡ steps.served_at (turn_at self.now.scheduler.scheduling place) }
     {
         self.scheduler.served(place)
+    }
+
+    /// Whether the request at a place still awaits the rows of another partition.
+    pub fn awaits(&self, from: u8, place: Place) -> bool
+        ensures { result ≡ awaits_at (part_of self.now).here (turn_at self.now.scheduler.scheduling place) from }
+    {
+        self.scheduler.awaits(place, from)
     }
 
     /// Takes the rows of another partition for the request at a place. Refused as `Scheduler::on_reads` is.

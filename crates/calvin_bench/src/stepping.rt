@@ -47,7 +47,7 @@ pub(crate) fn begin<A: App, L: Locks + Drop, S: Rows<A::Row> + Drop>(
     partitions[at].begin(place)
 }
 
-/// A partition takes the rows that another one read for the request at a place.
+/// A partition takes the rows that another one read for the request at a place, where it awaits them.
 pub(crate) fn receive<A: App, L: Locks + Drop, S: Rows<A::Row> + Drop>(
     partitions: &mut [Partition<A, L, S>],
     p: u8,
@@ -65,6 +65,9 @@ pub(crate) fn receive<A: App, L: Locks + Drop, S: Rows<A::Row> + Drop>(
     }
     if giver >= partitions.len() {
         return Err(Fault::NoNode);
+    }
+    if !partitions[at].awaits(from, place) {
+        return Err(Fault::NotAwaited);
     }
     let rows = partitions[giver].served(place)?;
     partitions[at].receive(from, place, &rows)

@@ -192,17 +192,7 @@ impl Plain {
             && !self.came.contains(&(number, from))
     }
 
-    fn receive(
-        &mut self,
-        order: &Order,
-        number: usize,
-        txn: &Txn<KvRequest>,
-        from: u8,
-        rows: &[Entry],
-    ) -> Result<End, Fault> {
-        if !self.awaits(order, number, txn, from) {
-            return Ok(End::Refused(43));
-        }
+    fn receive(&mut self, number: usize, from: u8, rows: &[Entry]) -> Result<End, Fault> {
         self.came.push((number, from))?;
         for entry in rows {
             self.brought.push((number, *entry))?;
@@ -323,14 +313,18 @@ impl PlainReplica {
             return Ok(End::Refused(60));
         }
         let Some((number, txn)) = self.order.find(place) else {
-            return Ok(End::Refused(47));
+            return Ok(End::Refused(43));
         };
-        let Some(rows) = self.served(from, number)? else {
-            return Ok(End::Refused(47));
+        let served = self.served(from, number)?;
+        let Some(part) = self.parts.get_mut(p as usize) else {
+            return Ok(End::Refused(60));
         };
-        match self.parts.get_mut(p as usize) {
-            Some(part) => part.receive(&self.order, number, &txn, from, rows.as_slice()),
-            None => Ok(End::Refused(60)),
+        if !part.awaits(&self.order, number, &txn, from) {
+            return Ok(End::Refused(43));
+        }
+        match served {
+            Some(rows) => part.receive(number, from, rows.as_slice()),
+            None => Ok(End::Refused(47)),
         }
     }
 

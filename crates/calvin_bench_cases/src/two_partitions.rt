@@ -48,7 +48,7 @@ fn finish_exchange<L: Locks + Drop>(
         &[
             done(),
             Shown::Refused(48),
-            Shown::Refused(47),
+            Shown::Refused(43),
             Shown::Refused(60),
         ],
     )?;
@@ -142,7 +142,7 @@ fn read_in_one<L: Locks + Drop>(
             Shown::Served(None, None),
             Shown::Refused(42),
             Shown::Refused(41),
-            Shown::Refused(47),
+            Shown::Refused(43),
         ],
     )?;
     same(rt, replica.stands_at(0)?, None);

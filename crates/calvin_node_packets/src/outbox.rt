@@ -116,7 +116,7 @@ impl<A: App> Outbox<A> {
         self.packets.len()
     }
 
-    /// Takes back what was sent after the first so many packets.
+    /// Takes back what was sent after the first so many packets, of which there are at least so many.
     pub fn take_back(&mut self, first: usize)
         requires { first ≤ length self.old.packets }
         ensures packets { self.new.packets ≡ take first self.old.packets }

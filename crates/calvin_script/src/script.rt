@@ -126,8 +126,8 @@ fn all_groups_fit<Op: Operation>(partitions: u8, epochs: &[Epoch<Kept<Op>>]) -> 
 }
 
 impl<Op: Operation> Script<Kept<Op>> {
-    /// The script of these epochs, for so many partitions and with this first woven epoch: none that lists a batch for a
-    /// group that is no partition, or two for one group in an epoch.
+    /// The script of these epochs, for so many partitions, 1 to 16, and with this first woven epoch, below 2^48: none that lists a
+    /// batch for a group that is no partition, or two for one group in an epoch.
     pub fn new(
         partitions: u8,
         woven_from: Option<u64>,
@@ -147,7 +147,7 @@ impl<Op: Operation> Script<Kept<Op>> {
         })
     }
 
-    /// What a store of so many replicas is opened with to run the script: without delay.
+    /// What a store of so many replicas, 1 to 7, is opened with to run the script: without delay.
     #[inline(always)]
     pub fn config(&self, replicas: u8) -> Config
         requires { IsInRange self.now.partitions replicas }

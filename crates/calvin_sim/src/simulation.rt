@@ -37,7 +37,8 @@ where
     Ok(())
 }
 
-/// Submits a script to a new world, and lets drawn events happen, and then those that bring every node to the last epoch.
+/// Submits a script to a new world, and lets drawn events happen, and then those that bring every node to the last epoch. The
+/// script fits (`fits`), and a sequencer takes each of its requests, as it does where the script was read (`read_is_taken`).
 /// Refused with `OutOfMemory` alone.
 pub fn simulate<A: App + Drop>(
     alloc: Global,

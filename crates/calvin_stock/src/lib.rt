@@ -24,4 +24,4 @@ pub use reply::StockReply;
 pub use request::StockRequest;
 pub use rows::{Customer, Item, Placed, StockRow};
 pub use stock::Stock;
-pub use totals::run_on_no_rows;
+pub use totals::{run_on_no_rows, totals_hold};

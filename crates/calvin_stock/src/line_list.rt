@@ -66,7 +66,7 @@ impl LineList {
         self.size
     }
 
-    /// The line with `i` lines before it.
+    /// The line with `i` lines before it: `i` is below `len()`.
     pub fn at(&self, i: usize) -> Line
         requires { i < length self.now }
         ensures { slice_get self.now i ≡ Some result }
@@ -83,7 +83,7 @@ impl LineList {
         &self.places[..self.size]
     }
 
-    /// Puts a line at the end.
+    /// Puts a line at the end of fewer than four.
     pub fn push(&mut self, line: Line)
         requires { length self.old < MOST_LINES }
         ensures { self.new ≡ self.old ++ line ∷ [] }

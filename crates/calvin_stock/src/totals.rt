@@ -1,7 +1,9 @@
-//! What a run of any list keeps: the cents that were paid in, and the pieces that were added.
-ghost use Rattle.std.specs.Prelude.{◌≡◌, ℕ, ◌+◌, IfOk, IsOkUnless};
+//! What every list keeps: the cents that were paid in, and the pieces that were added.
+ghost use Rattle.std.specs.Prelude.{◌≡◌, ℕ, ◌+◌, List, IfOk, IsOkUnless};
 ghost use Rattle.std.specs.FinMap as finmap;
+ghost use Rattle.calvin_types.specs.declared.txn.Txn.{Txn as ATxn};
 ghost use Rattle.calvin_app.specs.Serial.{serial};
+ghost use Rattle.calvin_stock.specs.declared.request.StockRequest.{StockRequest as ARequest};
 ghost use Rattle.calvin_stock.specs.Stock.{stock};
 ghost use Rattle.calvin_stock.specs.Totals.{cents_in, paid, stock_at, added, ordered};
 
@@ -12,10 +14,16 @@ use calvin_app::{Answer, Serial};
 use calvin_types::{Fault, Txn};
 use std::alloc::Global;
 
-/// Runs requests one after another, from no rows: the rows after the last one, and the answer to each. The cents of all
-/// payments that were answered `Done` are the sum of all balances and of the totals of all settled orders. For each item,
-/// the pieces that were answered `Done` when they were added are its stock and the pieces of its lines in orders that were
-/// answered `Ordered`. Refused for want of memory alone.
+/// No cents and no pieces get lost, over every list of requests from no rows. The cents of all payments that were answered `Done` are
+/// the sum of all balances and of the totals of all settled orders. For each item, the pieces that were answered `Done` when they were
+/// added are its stock and the pieces of its lines in orders that were answered `Ordered`.
+pub fn totals_hold()
+    ensures cents { (list : List (ATxn ARequest)) → let run = serial stock list finmap.empty in paid list run.1 ≡ cents_in run.0 }
+    ensures pieces { (i : ℕ) (list : List (ATxn ARequest)) → let run = serial stock list finmap.empty in added i list run.1 ≡ stock_at run.0 i + ordered i list run.1 }
+{}
+
+/// Runs requests one after another, from no rows: the rows after the last one, and the answer to each, of which `totals_hold`
+/// says the totals. Refused for want of memory alone.
 pub fn run_on_no_rows(
     alloc: Global,
     txns: &[Txn<StockRequest>],

@@ -68,7 +68,7 @@ impl KeySet {
         self.keys.len() == 0
     }
 
-    /// The key with `i` keys below it.
+    /// The key with `i` keys below it: `i` is below `len()`.
     pub fn at(&self, i: usize) -> Key
         requires { i < length self.now }
         ensures { slice_get self.now i ≡ Some result }

@@ -12,7 +12,7 @@ use Rattle.calvin_app.specs.Meaning.{Meaning}
 use Rattle.calvin_bench.proofs.Lists.{set_same, get_map}
 use Rattle.calvin_order.specs.Configs.{Config}
 use Rattle.calvin_sched.specs.Steps.{job}
-use Rattle.calvin_node_acts.specs.NodeStates.{NodeState, site_of}
+use Rattle.calvin_node_acts.specs.NodeStates.{site_of}
 use Rattle.calvin_node_acts.specs.Running.{Running, NodeFinished}
 use Rattle.calvin_node_acts.specs.declared.act.Act.TheVariants.{Finish}
 use Rattle.calvin_node_packets.specs.declared.packet.Packet.{Packet}

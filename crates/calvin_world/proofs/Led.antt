@@ -4,7 +4,7 @@ use Rattle.calvin_app.specs.Meaning.{Meaning}
 use Rattle.calvin_world.specs.declared.event.Event.{Event}
 use Rattle.calvin_world.specs.declared.event.Outcome.{Outcome}
 use Rattle.calvin_order.specs.Configs.{Config}
-use Rattle.calvin_world.specs.Worlds.{WorldState, happens, opening, Step, Leads}
+use Rattle.calvin_world.specs.Worlds.{WorldState, happens, opening, Leads}
 use Rattle.calvin_world.specs.SettledWorlds.{settled_world, SettledLeads}
 use Rattle.calvin_world.specs.Through.{through, WithoutWant}
 use Rattle.calvin_world.proofs.SettledEvents.{settled_leads}

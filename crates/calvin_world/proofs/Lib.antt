@@ -37,4 +37,5 @@ pub mod SettledHistories
 pub mod SettledCalls
 pub mod Led
 pub mod InCode
+pub mod Refused
 pub mod Jobs

@@ -3,7 +3,7 @@
 --     stays_chosen, stays_by, stays_here, ever_stays      what was chosen or held is chosen
 --     code_submitted, code_before      what is chosen was submitted, and before the event that made it chosen
 --     code_in_time, code_later      what stands was submitted in time; what comes after a reply stands later
-use Rattle.std.proofs.Common.{◌≡◌, ℕ, ◌<◌, List, [], ◌∷◌, inl, inr, refl, sym, subst, ◌∙◌, arith}
+use Rattle.std.proofs.Common.{◌≡◌, ◌<◌, List, [], ◌∷◌, inl, inr, refl, sym, subst, ◌∙◌, arith}
 use Rattle.calvin_types.specs.declared.place.Place.{Place}
 use Rattle.calvin_types.specs.declared.place.Slot.{Slot}
 use Rattle.calvin_types.specs.declared.txn.Txn.{Txn}

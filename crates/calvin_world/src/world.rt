@@ -129,8 +129,11 @@ impl<A: App + Drop, L: Locks + Drop, S: Rows<A::Row> + Drop> World<A, L, S> {
     /// number, with `NotMine` where the packet is for a client, with what the node refuses; else with `OutOfMemory` where a
     /// growth was refused or a batch can have no more owners. Where it is refused nothing changed.
     pub fn step(&mut self, event: &Event<A::Args>) -> Result<(), Fault>
-        ensures { SettledStep A.meaning self.old event.now (outcome_of result) self.new }
+        ensures step { SettledStep A.meaning self.old event.now (outcome_of result) self.new }
+        ensures err { OnErr result (self.new ≡ self.old) }
     {
+        // The prover has the world's invariant where a field of it is named.
+        let _ = &self.nodes;
         match event {
             Event::At(id, act) => self.act(*id, act),
             Event::Deliver(number) => self.deliver(*number),
@@ -168,6 +171,22 @@ impl<A: App + Drop, L: Locks + Drop, S: Rows<A::Row> + Drop> World<A, L, S> {
             outcomes.push_reserved(outcome_of(self.step(event)));
         }
         Ok(outcomes)
+    }
+
+    /// What is promised of this world, whatever happened in it: what `run` promises at its end, after `new` and after `step` too.
+    pub fn promised(&self)
+        ensures agrees { (w : WorldState A.Args A.Row A.Reply) × Agrees w × (self.now ≡ settled_world w) }
+        ensures serial { IsSerial A.meaning self.now }
+        ensures points { PointsAreSerial A.meaning self.now }
+        ensures alike { StandAlike self.now }
+        ensures reached { IsReached A.meaning self.now }
+        ensures ever { EverStays A.meaning self.now }
+        ensures submitted { WasSubmitted A.meaning self.now }
+        ensures before { SubmittedBefore A.meaning self.now }
+        ensures in_time { StandsInTime A.meaning self.now }
+        ensures later { StandsLater A.meaning self.now }
+    {
+        let _ = &self.nodes;
     }
 
     /// What is to be run at a place of a node, by whoever. Refused with `NoNode` where the node isn't there, else as

@@ -4,7 +4,6 @@ use Rattle.std.proofs.lemmas.Result.{err_from_is_err_and}
 use denote.Memory.{lone}
 use Rattle.calvin_node_packets.proofs.PacketSizes.{packet_of}
 use Rattle.calvin_book.specs.Books.{IsRefused}
-use Rattle.calvin_book.proofs.Runs.{run_reached, refused_keeps}
 use Rattle.calvin_book.proofs.Keeping.{on_err, same_err, why_refused, err_kept, err_view, ok_kept, ok_applied}
 use Rattle.calvin_book.proofs.book.Book.apply.Goals as goal
 
@@ -13,7 +12,7 @@ invariant_of-self-in_err-step g c =
     let p = c.self.inside in
     let m = g.A.App.meaning in
     err_kept m p.world p.events.items c.self.invariant.0 p.sent.items c.self.invariant.1 c.reserve.new.self.items c.reserve-2.new.self.items c.reserve.ensures.items c.reserve-2.ensures.items c.step.new.self
-    (refused_keeps m p.world (run_reached m p.events.items p.world c.self.invariant.0) c.args.event.now c.in_err-step.field-0.0 c.step.new.self c.in_err-step.ensures)
+    c.in_err-step.ensures.err
 
 pub returns-in_err-step-clause-err : goal.returns-in_err-step-clause-err
 returns-in_err-step-clause-err g c =
@@ -21,7 +20,7 @@ returns-in_err-step-clause-err g c =
     let m = g.A.App.meaning in
     on_err _
     (err_view m p.world p.events.items c.self.invariant.0 p.sent.items c.self.invariant.1 c.reserve.new.self.items c.reserve-2.new.self.items c.reserve.ensures.items c.reserve-2.ensures.items c.step.new.self
-    (refused_keeps m p.world (run_reached m p.events.items p.world c.self.invariant.0) c.args.event.now c.in_err-step.field-0.0 c.step.new.self c.in_err-step.ensures)
+    c.in_err-step.ensures.err
     ∙ c.self.view_is) c.from_residual-in_err-step.result
 
 pub returns-in_err-step-clause-only : goal.returns-in_err-step-clause-only
@@ -30,7 +29,7 @@ returns-in_err-step-clause-only g c = λ fault is.
     let m = g.A.App.meaning in
     let failed = err_from_is_err_and c.from_residual-in_err-step.result c.from_residual-in_err-step.ensures.1 in
     subst (λ f. IsRefused m c.args.self.now c.args.event.now f) (sym (same_err fault c.in_err-step.field-0.0 (sym is ∙ failed.1 ∙ ap Err failed.2)))
-    (why_refused m p.world p.events.items c.self.invariant.0 c.args.event.now c.in_err-step.field-0.0 c.step.new.self c.in_err-step.ensures c.args.self.now c.self.view_is)
+    (why_refused m p.world p.events.items c.self.invariant.0 c.args.event.now c.in_err-step.field-0.0 c.step.new.self c.in_err-step.ensures.step c.args.self.now c.self.view_is)
 
 pub packets-requires : goal.packets-requires
 packets-requires g c = packet_of (lone g.row.A-Args.mir) (lone g.row.A-Row.mir) (lone g.row.A-Reply.mir) g.met.A.App.work_fits
@@ -39,12 +38,12 @@ pub invariant_of-self-2 : goal.invariant_of-self-2
 invariant_of-self-2 g c =
     let p = c.self.inside in
     ok_kept g.A.App.meaning p.world p.events.items c.self.invariant.0 p.sent.items c.self.invariant.1 c.reserve.new.self.items c.reserve-2.new.self.items c.reserve.ensures.items c.reserve-2.ensures.items c.step.new.self
-    g.met.A.App.lawful.writes_within_the_sets c.args.event.now c.args.event.now refl c.push_reserved.new.self.items c.push_reserved.ensures.items c.in_ok-step.ensures
+    g.met.A.App.lawful.writes_within_the_sets c.args.event.now c.args.event.now refl c.push_reserved.new.self.items c.push_reserved.ensures.items c.in_ok-step.ensures.step
     c.packets.result.now c.packets.ensures c.push_reserved-2.new.self.items c.push_reserved-2.ensures.items
 
 pub returns-clause-ok : goal.returns-clause-ok
 returns-clause-ok g c =
     let p = c.self.inside in
     ok_applied g.A.App.meaning p.world p.events.items c.self.invariant.0 p.sent.items c.self.invariant.1 c.reserve.new.self.items c.reserve-2.new.self.items c.reserve.ensures.items c.reserve-2.ensures.items c.step.new.self
-    g.met.A.App.lawful.writes_within_the_sets c.args.event.now c.args.event.now refl c.push_reserved.new.self.items c.push_reserved.ensures.items c.in_ok-step.ensures
+    g.met.A.App.lawful.writes_within_the_sets c.args.event.now c.args.event.now refl c.push_reserved.new.self.items c.push_reserved.ensures.items c.in_ok-step.ensures.step
     c.args.self.now c.self.view_is

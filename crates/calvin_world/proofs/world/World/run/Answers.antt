@@ -1,5 +1,5 @@
 -- Each event leads on; and what holds of every list of events holds of these, after those that led here.
-use Rattle.std.proofs.Common.{rules, subst, refl}
+use Rattle.std.proofs.Common.{rules, subst}
 use Rattle.calvin_world.specs.RunningWorlds.{IsReached}
 use Rattle.calvin_world.proofs.InCode.{led_on, reached_by, reached_agrees, reached_serial, reached_points, reached_alike}
 use Rattle.calvin_world.proofs.SettledHistories.{stays_chosen, stays_by, stays_here, ever_stays, code_submitted, code_before, code_in_time, code_later}
@@ -9,7 +9,7 @@ pub loop-event-preserved : goal.loop-event-preserved
 loop-event-preserved g c = record {
   room = search rules;
   counted = search rules;
-  led = led_on _ c.args.self.now c.args.events.now c.loop-event.event-index _ c.loop-event-test.true c.event-item.is _ _ c.loop-event.invariant.led _ _ _ c.step.ensures c.outcome_of.ensures _ c.push_reserved.ensures.items;
+  led = led_on _ c.args.self.now c.args.events.now c.loop-event.event-index _ c.loop-event-test.true c.event-item.is _ _ c.loop-event.invariant.led _ _ _ c.step.ensures.step c.outcome_of.ensures _ c.push_reserved.ensures.items;
 }
 
 pub returns-in_err-outcomes-clause-agrees : goal.returns-in_err-outcomes-clause-agrees
