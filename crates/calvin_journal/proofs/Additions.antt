@@ -63,6 +63,12 @@ module _ (line : List ℕ) (free : has_break line ≡ false) where
   untouched None is = tt
   untouched (Some old) is = by_bounds old old is ([], append-nil old.kept) (line ++ 10 ∷ [], ap (λ d. d.most ++ (line ++ 10 ∷ [])) is ∙ ap (λ d. d.seen ++ (line ++ 10 ∷ [])) (sym is))
 
+pub stands_so : (told : Option Disk) → IfSome told IsText → Becomes (option_map (λ (ls : List (List ℕ)). (ls, ls)) (option_map (λ (d : Disk). lines_of d.seen) told)) told
+stands_so None is = tt
+stands_so (Some disk) is =
+    may_become (lines_of disk.seen) (lines_of disk.seen) disk.seen disk (lines_of-are disk.seen) (prefix_same (text (lines_of disk.seen)) disk.kept (sym (ap (λ d. d.kept) is)))
+    (prefix_same disk.most disk.seen (ap (λ d. d.most) is ∙ sym (ap (λ d. d.seen) is))) refl
+
 -- ---- a journal is closed behind the lines that were handed out
 
 abbrev pub IsWhole : ℕ → Disk → Type 0

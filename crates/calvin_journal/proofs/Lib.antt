@@ -1,5 +1,5 @@
 pub mod Splits
 mod Options
-mod Reading
+pub mod Reading
 mod Headings
 mod Additions

@@ -69,6 +69,7 @@ impl<L: Log + Drop> Journal<L> {
 
     /// The log. Whatever crashes, its file has these lines and nothing else.
     pub fn into_log(self) -> L
+        ensures any_moment { Becomes (option_map (λ ls. (ls, ls)) self.lines) (L.told result) }
         ensures told { L.told result ≡ option_map (λ ls. synced (text ls)) self.lines }
         ensures failures { L.failures result ≡ self.failures }
     {

@@ -4,6 +4,7 @@
 --     placed_txn p      a place with the request that stands there, apart from whether its sets were declared
 --     scouted_txn m rows r      the request r with the sets that it declares, or else with those that are found over these rows
 --     scouted_epoch m rows requests      so all requests of an epoch, over the rows before it
+--     with_sets m sets rows requests      the requests of an epoch, over the rows before it, with undeclared sets of this kind
 --     scouted_order m script rows e n      so the merged order of n epochs from e on, each over the rows that the epochs before it leave of these
 --     order_of m script sets      the merged order of all the script's epochs, with undeclared sets of this kind
 --     RunsOn m show placed rows new text longer      these requests were run on the rows, and a line for each was added to the text
@@ -48,6 +49,10 @@ module _ {Args Row Reply : Type 0} (m : Meaning Args Row Reply) where
     txn ← scouted_txn rows r.1
     placed ← scouted_epoch rows rs
     Ok ((r.0, txn) ∷ placed)
+
+  abbrev pub with_sets : UndeclaredSets → Rows Row → List (Place × Request Args) → Result (Order Args) Fault
+  with_sets First rows requests = Ok (map placed_txn requests)
+  with_sets Scouted rows requests = scouted_epoch rows requests
 
   abbrev pub scouted_order : Contents Args → Rows Row → ℕ → ℕ → Result (Order Args) Fault
   scouted_order script rows e zero = Ok []

@@ -10,7 +10,7 @@ ghost use Rattle.calvin_serial.specs.Scouting.{serial_config, placed_txn, RunsOn
 use crate::listed::ListedBatches;
 use crate::order::{is_woven, joined_requests, requests_in};
 use calvin_app::{Answer, App, Serial, View, Writes};
-use calvin_order::EpochRequests;
+use calvin_order::{BatchSource, EpochRequests};
 use calvin_script::{Kept, Operation, Script};
 use calvin_text::{Printed, push_line};
 use calvin_types::{Fault, KeySet, Place, Sets, Txn};
@@ -91,11 +91,11 @@ where
     Ok(())
 }
 
-/// Runs requests of a script where they stand, one after another, and adds a line for each.
+/// Runs requests where they stand, one after another, and adds a line for each.
 #[inline(always)]
-fn push_requests<A: App>(
+pub(crate) fn push_requests<A: App, B: BatchSource<Kept<A::Args>>>(
     store: &mut Serial<A>,
-    requests: EpochRequests<'_, Kept<A::Args>, ListedBatches<'_, Kept<A::Args>>>,
+    requests: EpochRequests<'_, Kept<A::Args>, B>,
     seen: &mut View<A::Row>,
     answer: &mut Answer<A::Reply>,
     writes: &mut Writes<A::Row>,

@@ -7,7 +7,7 @@ pub loop-place-init : goal.loop-place-init
 loop-place-init g c =
     let found = scouted_epoch g.A.App.meaning c.args.rows.now in
     ap (λ none. behind none (found c.into_iter-place-iterator.result)) c.new-scouted.ensures.items
-    ∙ behind_none (found c.into_iter-place-iterator.result) ∙ ap found (c.into_iter-place-iterator.ensures.into_iter_gives ∙ c.requests_in-place-items.ensures)
+    ∙ behind_none (found c.into_iter-place-iterator.result) ∙ ap found c.into_iter-place-iterator.ensures.into_iter_gives
 
 pub loop-place-preserved : goal.loop-place-preserved
 loop-place-preserved g c =

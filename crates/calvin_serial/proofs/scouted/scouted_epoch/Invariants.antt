@@ -1,7 +1,5 @@
 use Rattle.std.proofs.Common.{◌≡◌}
-use Rattle.calvin_order.specs.Configs.{merged}
-use Rattle.calvin_script.specs.Scripts.{contents, requests_at}
-use Rattle.calvin_serial.specs.Scouting.{serial_config, scouted_epoch}
+use Rattle.calvin_serial.specs.Scouting.{scouted_epoch}
 use Rattle.calvin_serial.proofs.Scouts.{behind}
 use Rattle.calvin_serial.proofs.scouted.scouted_epoch.Given as goal
 
@@ -9,4 +7,4 @@ use Rattle.calvin_serial.proofs.scouted.scouted_epoch.Given as goal
 abbrev pub invariant-loop-place : goal.invariant-loop-place
 invariant-loop-place g l =
     let found = scouted_epoch g.A.App.meaning l.rows in
-    behind l.scouted.items (found l.place-iterator) ≡ found (merged (serial_config (contents l.script)) (requests_at (contents l.script)) l.epoch)
+    behind l.scouted.items (found l.place-iterator) ≡ found l.fn.requests

@@ -1,7 +1,7 @@
 use Rattle.std.proofs.Common.{◌≡◌, ◌++◌, drop, map}
 use Rattle.calvin_app.specs.Serial.{serial}
 use Rattle.calvin_text.specs.Texts.{lines}
-use Rattle.calvin_serial.proofs.scouted.push_scouted_epoch.Given as goal
+use Rattle.calvin_serial.proofs.scouted.push_scouted.Given as goal
 
 -- the lines so far and those of the requests to come are those of the whole epoch
 abbrev pub invariant-loop-place : goal.invariant-loop-place

@@ -1,0 +1,163 @@
+//! The desk.
+ghost use Rattle.std.specs.Prelude.{◌≡◌, ◌≤◌, ◌+◌, ◌⊎◌, ◌∷◌, ◌++◌, [], ℕ, List, Ok, false, IfOk, IfErr, OnOk, IsOkUnless, option_map};
+ghost use Rattle.calvin_types.specs.declared.limits.TheConstants.{MOST_EPOCHS};
+ghost use Rattle.calvin_script.specs.Scripts.{all_listed};
+ghost use Rattle.calvin_serial.specs.FirstSets.{NeedsFirst};
+ghost use Rattle.calvin_journal.specs.Lines.{has_break};
+ghost use Rattle.calvin_journal.specs.Journals.{Becomes};
+ghost use Rattle.calvin_journal_log.specs.declared.fault.JournalFault.TheVariants as journal;
+ghost use Rattle.calvin_serve_desk.specs.declared.fault.ServiceFault.TheVariants.{OutOfMemory, EpochsSpent, Journal as OfJournal};
+ghost use Rattle.calvin_serve_desk.specs.Desks.{Commits};
+ghost use Rattle.calvin_serve_desk.specs.Epochs.{epoch_answers};
+
+use crate::fault::{ServiceFault, Stopped};
+use crate::one_epoch::OneEpoch;
+use crate::setting::Setting;
+use calvin_app::{Serial, Settles};
+use calvin_journal::Journal;
+use calvin_journal_log::Log;
+use calvin_order::EpochRequests;
+use calvin_script::{Epoch, Kept, Operation};
+use calvin_serial::push_answers;
+use calvin_text::Printed;
+use calvin_types::{Config, Fault, MOST_EPOCHS};
+use std::alloc::Global;
+use std::marker::Model;
+
+/// A journal, and the rows where its epochs leave them. To contracts it is the journal's lines, where its log tells its bytes,
+/// the number of the next epoch, and the rows.
+#[derive(Drop)]
+pub struct Desk<A: Settles + Drop, L: Log + Drop> {
+    app: A,
+    setting: Setting,
+    store: Serial<A>,
+    epoch: u64,
+    journal: Journal<L>,
+}
+
+impl<A: Settles + Drop, L: Log + Drop> Model for Desk<A, L> {
+    ghost use Rattle.std.specs.Prelude.{◌≤◌};
+    ghost use Rattle.std.specs.Coded.{codes};
+    ghost use Rattle.std.specs.FinMap.{code};
+    ghost use Rattle.calvin_types.specs.declared.limits.TheConstants.{MOST_EPOCHS};
+    ghost use Rattle.calvin_serve_desk.specs.Desks.{Standing};
+
+    ghost Value = { Standing A.Row };
+
+    ghost coded = { Prim.hlevel (codes, code) };
+
+    ghost view = { λ d. record { setting = d.setting; lines = d.journal.lines; failures = d.journal.failures; epoch = d.epoch; rows = d.store } };
+
+    ghost invariant = { λ d. d.epoch ≤ MOST_EPOCHS };
+}
+
+impl<A: Settles + Drop, L: Log + Drop> Desk<A, L>
+where
+    A::Args: Operation,
+    A::Reply: Printed,
+{
+    /// Takes one epoch more: its line is added to the journal and kept there, then it is run, and a line for each request is
+    /// added to the text. Only when this answers well may the text be told.
+    ///
+    /// Refused, the desk is gone, and after each crash the journal has the lines from before, and then maybe this one. Where all
+    /// 2^48 epochs are used (`EpochsSpent`) nothing was written.
+    pub fn commit(
+        self,
+        alloc: Global,
+        line: &[u8],
+        epoch: &Epoch<Kept<A::Args>>,
+        text: &mut Vec<u8>,
+    ) -> Result<Desk<A, L>, Stopped<L>>
+        requires first { NeedsFirst A.Args.grammar A.meaning }
+        requires one_line { has_break line.now ≡ false }
+        ensures ok { IfOk result (λ d. Commits A.meaning A.Reply.printed self line.now (all_listed epoch.now) d text.old.items text.new.items) }
+        ensures any_moment { IfErr result (λ s. Becomes (option_map (λ ls. (ls, ls ++ line.now ∷ [])) self.lines) (L.told s.log)) }
+        ensures only { IfErr result (λ s. (s.fault ≡ OutOfMemory) ⊎ (s.fault ≡ EpochsSpent) ⊎ (s.fault ≡ OfJournal journal.JournalFailed)) }
+        ensures spent { IfErr result (λ s. s.fault ≡ EpochsSpent → (MOST_EPOCHS ≤ self.epoch) × Becomes (option_map (λ ls. (ls, ls)) self.lines) (L.told s.log)) }
+        ensures failed { IfErr result (λ s. s.fault ≡ OfJournal journal.JournalFailed → L.failures s.log ≡ self.failures + 1) }
+    {
+        if self.epoch >= MOST_EPOCHS {
+            return Err(Stopped {
+                fault: ServiceFault::EpochsSpent,
+                log: self.journal.into_log(),
+            });
+        }
+        let journal = match self.journal.add(alloc, line) {
+            Ok(journal) => journal,
+            Err(refused) => return Err(Stopped::from_journal(refused)),
+        };
+        let mut store = self.store;
+        match run_epoch(
+            alloc,
+            &self.app,
+            &self.setting,
+            &mut store,
+            self.epoch,
+            epoch,
+            text,
+        ) {
+            Ok(()) => Ok(Desk {
+                app: self.app,
+                setting: self.setting,
+                store,
+                epoch: self.epoch + 1,
+                journal,
+            }),
+            Err(_) => Err(Stopped {
+                fault: ServiceFault::OutOfMemory,
+                log: journal.into_log(),
+            }),
+        }
+    }
+
+    /// What the journal is of.
+    pub fn setting(&self) -> &Setting
+        ensures { result.now ≡ self.now.setting }
+    {
+        &self.setting
+    }
+
+    /// The number of the next epoch.
+    pub fn epoch(&self) -> u64
+        ensures { result ≡ self.now.epoch }
+    {
+        self.epoch
+    }
+
+    /// The log. Whatever crashes, its file has these lines and nothing else.
+    pub fn into_log(self) -> L
+        ensures any_moment { Becomes (option_map (λ ls. (ls, ls)) self.lines) (L.told result) }
+        ensures failures { L.failures result ≡ self.failures }
+    {
+        self.journal.into_log()
+    }
+}
+
+/// Runs an epoch, whose number is this one, on the rows that there are, and adds a line for each request.
+pub(crate) fn run_epoch<A: Settles>(
+    alloc: Global,
+    app: &A,
+    setting: &Setting,
+    store: &mut Serial<A>,
+    number: u64,
+    epoch: &Epoch<Kept<A::Args>>,
+    text: &mut Vec<u8>,
+) -> Result<(), Fault>
+where
+    A::Args: Operation,
+    A::Reply: Printed,
+    requires first { NeedsFirst A.Args.grammar A.meaning }
+    ensures ok { OnOk result ((here : List ℕ) × (epoch_answers A.meaning A.Reply.printed setting.now number store.old (all_listed epoch.now) ≡ Ok (store.new, here))
+        × (text.new.items ≡ text.old.items ++ here)) }
+    ensures only { IsOkUnless result Fault.OutOfMemory }
+{
+    let batches = OneEpoch { epoch };
+    let config = Config {
+        partitions: setting.partitions,
+        replicas: 1,
+        delay: 0,
+        woven_from: None,
+    };
+    let requests = EpochRequests::new(&batches, number, &config);
+    push_answers(alloc, app, store, requests, setting.sets, text)
+}
