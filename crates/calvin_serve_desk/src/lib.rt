@@ -4,9 +4,11 @@
 
 mod desk;
 mod fault;
+mod laws;
 mod one_epoch;
 mod setting;
 
 pub use desk::Desk;
 pub use fault::{ServiceFault, Stopped};
+pub use laws::answered_as_a_script;
 pub use setting::Setting;
