@@ -1,0 +1,4 @@
+pub mod Asking
+pub mod Epochs
+pub mod Gathered
+pub mod BatchJson
