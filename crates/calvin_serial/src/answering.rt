@@ -37,14 +37,7 @@ where
             let mut seen = View::new();
             let mut answer = Answer::Changed;
             let mut writes = Writes::new();
-            push_requests(
-                store,
-                requests,
-                &mut seen,
-                &mut answer,
-                &mut writes,
-                text,
-            )
+            push_requests(store, requests, &mut seen, &mut answer, &mut writes, text)
         }
         UndeclaredSets::Scouted => push_scouted(alloc, app, store, requests, text),
     }

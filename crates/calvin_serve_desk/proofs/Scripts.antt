@@ -92,17 +92,20 @@ module _ {Args Row Reply : Type 0} (m : Meaning Args Row Reply) (show : Reply �
       ap (lines_of_order rows end) (one_more setting.sets rows (length before) (length rest) epoch (ap (λ es. get_or es (length before) []) (sym is) ∙ at_length before epoch rest []))
       ∙ through
       (λ placed. ap (λ n. lines_of_order (after rows placed) end (rest_of setting.sets (after rows placed) n (length rest))) (sym count)
-          ∙ alike end (before ++ epoch ∷ []) rest (after rows placed) longer
-          ∙ ap (λ n. text_of_answers end (answers m show setting n (after rows placed) rest)) count)
+      ∙ alike end (before ++ epoch ∷ []) rest (after rows placed) longer
+      ∙ ap (λ n. text_of_answers end (answers m show setting n (after rows placed) rest)) count)
       (with_sets m setting.sets rows (in_order setting.partitions (length before) epoch))
     where
       longer : (before ++ epoch ∷ []) ++ rest ≡ epochs
       longer = append_assoc before (epoch ∷ []) rest ∙ is
+
       count : length (before ++ epoch ∷ []) ≡ suc (length before)
       count = omega (arith, length-append before (epoch ∷ []))
+
       Next : Type 0
       Next = (placed : Order Args) → lines_of_order (after rows placed) end (rest_of setting.sets (after rows placed) (suc (length before)) (length rest))
           ≡ text_of_answers end (answers m show setting (suc (length before)) (after rows placed) rest)
+
       through : Next → (here : Result (Order Args) Fault)
           → lines_of_order rows end (and_then here (λ placed. and_then (rest_of setting.sets (after rows placed) (suc (length before)) (length rest)) (λ later. Ok (placed ++ later))))
           ≡ text_of_answers end (and_then (and_then here (λ placed. Ok (after rows placed, said rows placed))) (λ (h : Rows Row × List ℕ). and_then (answers m show setting (suc (length before)) h.0 rest) (λ (l : Rows Row × List ℕ). Ok (l.0, h.1 ++ l.1))))

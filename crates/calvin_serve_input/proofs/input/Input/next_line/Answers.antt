@@ -46,8 +46,10 @@ returns-in_ok-extend-in-None-clause-none c = λ _.
     let whole = piece inside.start inside.end inside.block.items c.deref.result.now held.3 c.deref.ensures.value in
     let free : has_break ahead ≡ false = no_break_in ahead (λ j lt is. c.in-None.ensures j (omega arith) lt is) in
     let is : c.extend-in-None.new.line.items ≡ take inside.most (inside.begin.items ++ ahead) = search rules in
-    let empty = drop_all inside.end (take inside.end inside.block.items) (omega (arith, length-take inside.end inside.block.items)) in
-    (empty, λ left.
-        ap (λ w. coming w left) (sym c.self.view_is) ∙ ap (λ w. coming (record { most = inside.most; begin = inside.begin.items; ahead = w }) left) (sym whole)
-        ∙ read_through inside.most held.0 inside.begin.items ahead left held.2 free
-        ∙ (λ i. coming (record { most = inside.most; begin = sym is i; ahead = sym empty i }) left))
+    let empty = drop_all inside.end (take inside.end inside.block.items) (omega (arith, length-take inside.end inside.block.items)) in (
+      empty,
+      λ left.
+          ap (λ w. coming w left) (sym c.self.view_is) ∙ ap (λ w. coming (record { most = inside.most; begin = inside.begin.items; ahead = w }) left) (sym whole)
+          ∙ read_through inside.most held.0 inside.begin.items ahead left held.2 free
+          ∙ (λ i. coming (record { most = inside.most; begin = sym is i; ahead = sym empty i }) left),
+    )

@@ -1,0 +1,6 @@
+mod Reading
+mod Requests
+mod Settling
+mod Steps
+mod Taking
+mod Turning
