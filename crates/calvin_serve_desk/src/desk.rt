@@ -56,6 +56,26 @@ where
     A::Args: Operation,
     A::Reply: Printed,
 {
+    /// A desk at a journal whose epochs, so many, led to these rows.
+    pub fn new(
+        app: A,
+        setting: Setting,
+        store: Serial<A>,
+        epochs: u64,
+        journal: Journal<L>,
+    ) -> Desk<A, L>
+        requires in_range { epochs ≤ MOST_EPOCHS }
+        ensures { result ≡ record { setting = setting; lines = journal.lines; failures = journal.failures; epoch = epochs; rows = store } }
+    {
+        Desk {
+            app,
+            setting,
+            store,
+            epoch: epochs,
+            journal,
+        }
+    }
+
     /// Takes one epoch more: its line is added to the journal and kept there, then it is run, and a line for each request is
     /// added to the text. Only when this answers well may the text be told.
     ///
@@ -133,8 +153,9 @@ where
     }
 }
 
-/// Runs an epoch, whose number is this one, on the rows that there are, and adds a line for each request.
-pub(crate) fn run_epoch<A: Settles>(
+/// Runs an epoch, whose number is this one, on the rows that there are, and adds a line for each request. Refused only for want of
+/// memory: then some of the requests may have been run.
+pub fn run_epoch<A: Settles>(
     alloc: Global,
     app: &A,
     setting: &Setting,

@@ -22,7 +22,7 @@ pub enum ServiceFault {
 
 impl ServiceFault {
     /// The same of a journal's.
-    pub(crate) fn of_journal(fault: JournalFault) -> ServiceFault
+    pub fn of_journal(fault: JournalFault) -> ServiceFault
         ensures { result ≡ of_journal fault }
     {
         match fault {
@@ -41,7 +41,7 @@ pub struct Stopped<L: Log + Drop> {
 
 impl<L: Log + Drop> Stopped<L> {
     /// The end that a journal has brought.
-    pub(crate) fn from_journal(refused: Refused<L>) -> Stopped<L>
+    pub fn from_journal(refused: Refused<L>) -> Stopped<L>
         ensures fault { result.fault ≡ of_journal refused.fault }
         ensures log { result.log ≡ refused.log }
     {

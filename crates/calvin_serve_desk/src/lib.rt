@@ -8,7 +8,7 @@ mod laws;
 mod one_epoch;
 mod setting;
 
-pub use desk::Desk;
+pub use desk::{Desk, run_epoch};
 pub use fault::{ServiceFault, Stopped};
 pub use laws::answered_as_a_script;
 pub use setting::Setting;

@@ -86,6 +86,7 @@ impl Input {
     pub fn read<S: Source>(&mut self, source: &mut S) -> Result<bool, ReadFailed>
         requires none { self.old.ahead ≡ [] }
         ensures ok { OnOk result ((self.new.most ≡ self.old.most) × (self.new.begin ≡ self.old.begin) × Consumes (S.left source.old) (S.left source.new) self.new.ahead) }
+        ensures more { IfOk result (λ more. more ≡ true → 0 < length self.new.ahead) }
         ensures end { IfOk result (λ more. more ≡ false → (self.new.ahead ≡ []) × IsAtEnd (S.left source.new)) }
         ensures err { OnErr result ((self.new ≡ self.old) × Keeps (S.left source.old) (S.left source.new)) }
         ensures failed { OnErr result (S.failures source.new ≡ S.failures source.old + 1) }
