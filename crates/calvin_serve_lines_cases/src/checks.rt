@@ -1,0 +1,13 @@
+//! How a test compares.
+use std::fmt::Debug;
+use std::process::Abort;
+
+/// It is so; else the test fails.
+pub(crate) fn holds(rt: &impl Abort, is_so: bool) {
+    assert!(rt; is_so);
+}
+
+/// Two values are the same; else the test fails, and shows both.
+pub(crate) fn same<T: PartialEq + Debug + Drop>(rt: &impl Abort, found: T, wanted: T) {
+    assert_eq!(rt; found, wanted);
+}
