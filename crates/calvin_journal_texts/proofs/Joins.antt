@@ -13,7 +13,3 @@ one_more f xs i x lt is old =
     let more = ap (map f) (take_more xs i x lt ∙ ap (λ y. take i xs ++ y ∷ []) is) ∙ map-append f (take i xs) (x ∷ []) in
     ap (λ w. w ++ f x) (append_assoc old (continued (map f (take i xs))) (44 ∷ [])) ∙ append_assoc old (continued (map f (take i xs)) ++ 44 ∷ []) (f x)
     ∙ ap (λ w. old ++ w) (sym (continued-append (map f (take i xs)) (f x)) ∙ ap continued (sym more))
-
-pub twice : {A B C : Type 0} (f : B → C) (h : A → B) (xs : List A) → map f (map h xs) ≡ map (λ x. f (h x)) xs
-twice f h [] = refl
-twice f h (x ∷ xs) = ap (λ w. f (h x) ∷ w) (twice f h xs)

@@ -8,8 +8,8 @@ use Rattle.json.proofs.Printed.Tokens.{tokens-print}
 use Rattle.json.proofs.Printed.Trees.{ArePrintable-json_tokens, value-json_tokens}
 use Rattle.serde_json.specs.Read.{read, of_json, max_depth}
 use Rattle.calvin_journal_texts.specs.Joined.{joined}
-use Rattle.calvin_journal_texts.specs.Texts.{Texts, batch_text, epoch_text, script_front, script_text}
-use Rattle.calvin_journal_texts.specs.Trees.{Batch, printed, items_list, printed_batch, batch_json, epoch_json, script_json}
+use Rattle.calvin_journal_texts.specs.Texts.{script_front, script_text}
+use Rattle.calvin_journal_texts.specs.Trees.{printed, items_list, script_json}
 use Rattle.calvin_journal_texts.proofs.Wrapped.{print_from-append, items_end, joined_items}
 
 -- an array and what closes the object round it
@@ -22,21 +22,6 @@ closed js =
 
 to_right : (a b c d e : List ℕ) → (((a ++ b) ++ c) ++ d) ++ e ≡ a ++ (b ++ (c ++ (d ++ e)))
 to_right a b c d e = append_assoc ((a ++ b) ++ c) d e ∙ append_assoc (a ++ b) c (d ++ e) ∙ append_assoc a b (c ++ (d ++ e))
-
-batch_printed : (b : Batch) → batch_text (printed_batch b) ≡ printed (batch_json b)
-unfolding print_from escape_byte
-batch_printed b =
-    to_right (codes "{\"group\":") (decimal b.group) (codes ",\"txns\":[") (joined (map printed b.requests)) (codes "]}")
-    ∙ ap (λ w. codes "{\"group\":" ++ (decimal b.group ++ (codes ",\"txns\":[" ++ w))) (sym (closed b.requests))
-
-batches_printed : (epoch : List Batch) → map batch_text (map printed_batch epoch) ≡ map printed (map batch_json epoch)
-batches_printed [] = refl
-batches_printed (b ∷ bs) = ap (λ w. w ∷ map batch_text (map printed_batch bs)) (batch_printed b) ∙ ap (λ w. printed (batch_json b) ∷ w) (batches_printed bs)
-
-pub epoch_printed : (batches : List Texts) (epoch : List Batch) → batches ≡ map printed_batch epoch → epoch_text batches ≡ printed (epoch_json epoch)
-unfolding print_from
-epoch_printed batches epoch is =
-    ap epoch_text is ∙ ap (λ w. codes "[" ++ joined w ++ codes "]") (batches_printed epoch) ∙ ap (λ w. 91 ∷ w) (sym (joined_items (map batch_json epoch)))
 
 module _ (partitions : ℕ) (app : List ℕ) (js : List Json) (plain : escape app ≡ app) where
   abbrev rest : List ℕ

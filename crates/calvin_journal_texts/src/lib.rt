@@ -1,7 +1,7 @@
-//! What a journal's lines are written as: an epoch in one line of JSON, from the texts of its requests; and the script whose
-//! epochs the lines are. Both are joined from what is written already, and are what a writer of JSON would print.
+//! The script that a journal is. Its epochs are the journal's lines, joined as they are, and the whole is what a writer of JSON would
+//! print.
 #![tactic(auto)]
 
 mod texts;
 
-pub use texts::{RequestTexts, epoch_line, script_text};
+pub use texts::script_text;

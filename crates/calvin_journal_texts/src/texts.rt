@@ -5,33 +5,11 @@ ghost use Rattle.json.specs.Tree.{HasNumbers, depth};
 ghost use Rattle.json.specs.Print.{escape};
 ghost use Rattle.serde_json.specs.Read.{read, of_json, max_depth};
 ghost use Rattle.calvin_journal_texts.specs.Joined.{continued, joined};
-ghost use Rattle.calvin_journal_texts.specs.Texts.{items_of, texts_of, batch_text, epoch_text, script_front, script_text};
-ghost use Rattle.calvin_journal_texts.specs.Trees.{Batch, printed, printed_batch, epoch_json, script_json};
+ghost use Rattle.calvin_journal_texts.specs.Texts.{items_of, script_front, script_text};
+ghost use Rattle.calvin_journal_texts.specs.Trees.{printed, script_json};
 
 use itoa::Buffer;
 use std::alloc::{AllocError, Global};
-
-/// The requests of an epoch for a group, in order, each as the text of its JSON without spaces, as a writer of JSON prints it.
-#[derive(Debug, Drop)]
-pub struct RequestTexts {
-    pub group: u8,
-    pub requests: Vec<Vec<u8>>,
-}
-
-/// The line of an epoch: its JSON as a script has it, without spaces and without a line feed behind it. Refused only for want of
-/// memory.
-pub fn epoch_line(alloc: Global, batches: &[RequestTexts]) -> Result<Vec<u8>, AllocError>
-    ensures text { IfOk result (λ line. line.items ≡ epoch_text (map texts_of batches.now)) }
-    ensures json { IfOk result (λ line. (epoch : List Batch) → map texts_of batches.now ≡ map printed_batch epoch
-        → line.items ≡ printed (epoch_json epoch)) }
-    // It is read as that JSON, where it nests no deeper than JSON is read.
-    ensures reads { IfOk result (λ line. (epoch : List Batch) → map texts_of batches.now ≡ map printed_batch epoch
-        → HasNumbers (epoch_json epoch) → depth (epoch_json epoch) ≤ max_depth → read line.items ≡ of_json (epoch_json epoch)) }
-{
-    let mut text = Vec::new(alloc);
-    push_epoch(&mut text, batches)?;
-    Ok(text)
-}
 
 /// The script of these epochs, each as its line, for so many partitions and the application of this name, which is one that
 /// stands in JSON as it is. No epoch of it is woven. Refused only for want of memory.
@@ -88,51 +66,6 @@ fn push_partitions(text: &mut Vec<u8>, partitions: u8) -> Result<(), AllocError>
     let mut number = Buffer::new();
     text.extend_from_slice(b"{\"partitions\":")?;
     text.extend_from_slice(number.format(partitions).as_bytes())?;
-    Ok(())
-}
-
-/// Adds the JSON of an epoch.
-fn push_epoch(text: &mut Vec<u8>, batches: &[RequestTexts]) -> Result<(), AllocError>
-    ensures { OnOk result (text.new.items ≡ text.old.items ++ epoch_text (map texts_of batches.now)) }
-{
-    text.push(b'[')?;
-    push_batches(text, batches)?;
-    text.push(b']')?;
-    Ok(())
-}
-
-/// Adds the JSON of batches, with a comma between two.
-fn push_batches(text: &mut Vec<u8>, batches: &[RequestTexts]) -> Result<(), AllocError>
-    ensures { OnOk result (text.new.items ≡ text.old.items ++ joined (map batch_text (map texts_of batches.now))) }
-{
-    if let Some((first, rest)) = batches.split_first() {
-        push_batch(text, first)?;
-        push_more_batches(text, rest)?;
-    }
-    Ok(())
-}
-
-/// Adds the JSON of batches, each behind a comma.
-fn push_more_batches(text: &mut Vec<u8>, batches: &[RequestTexts]) -> Result<(), AllocError>
-    ensures { OnOk result (text.new.items ≡ text.old.items ++ continued (map batch_text (map texts_of batches.now))) }
-{
-    for batch in batches {
-        text.push(b',')?;
-        push_batch(text, batch)?;
-    }
-    Ok(())
-}
-
-/// Adds the JSON of a batch.
-fn push_batch(text: &mut Vec<u8>, batch: &RequestTexts) -> Result<(), AllocError>
-    ensures { OnOk result (text.new.items ≡ text.old.items ++ batch_text (texts_of batch.now)) }
-{
-    let mut number = Buffer::new();
-    text.extend_from_slice(b"{\"group\":")?;
-    text.extend_from_slice(number.format(batch.group).as_bytes())?;
-    text.extend_from_slice(b",\"txns\":[")?;
-    push_joined(text, &batch.requests)?;
-    text.extend_from_slice(b"]}")?;
     Ok(())
 }
 
