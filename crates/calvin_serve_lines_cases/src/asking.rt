@@ -66,7 +66,7 @@ fn lines_of_at_most_65_536_bytes_are_read(rt: HostRuntime) -> Result<(), Fail> {
     let alloc = rt.alloc();
     let put = r#"{"client":7,"number":1,"op":["put",5,30]}"#;
     let mut line = String::from_str(alloc, put)?;
-    while line.len() < 65_536 {
+    for _space in line.len()..65_536 {
         line.push(' ')?;
     }
     same(&rt, group_of(alloc, line.as_str()), Ok(1));
