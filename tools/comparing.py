@@ -1,5 +1,5 @@
 """Runs the proved program on many scripts, four at once, compares how each run ends with how it has to end, and counts what came
-up: what check_answers, check_runs, check_sims and check_worlds have in common."""
+up: what check_answers, check_runs, check_scripts, check_sims and check_worlds have in common."""
 
 import json
 import subprocess
@@ -20,11 +20,10 @@ MOVED = 0, "0.0 7:1 done\n0.1 7:2 done\nfinished 0\n", ""
 
 
 def found_by(words, script):
-    """How the program ends on a script: status, standard output, standard error."""
+    """How the program ends on a script, or on these bytes: status, standard output, standard error."""
+    data = script if isinstance(script, bytes) else json.dumps(script).encode()
     try:
-        run = subprocess.run(
-            [PROGRAM, *words], input=json.dumps(script).encode(), capture_output=True, check=False, timeout=MOST_SECONDS
-        )
+        run = subprocess.run([PROGRAM, *words], input=data, capture_output=True, check=False, timeout=MOST_SECONDS)
     except subprocess.TimeoutExpired:
         return f"it hasn't ended after {MOST_SECONDS} seconds"
     return run.returncode, run.stdout.decode(), run.stderr.decode()
@@ -47,7 +46,7 @@ def failures(runs, difference=other_ending):
         for name, why in pool.map(compared, runs):
             if why:
                 failed += 1
-                print(f"{name}: {why}")
+                print(f"{name}: {why}", flush=True)
     return failed
 
 

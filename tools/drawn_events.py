@@ -169,21 +169,21 @@ def kinds_of(world, event):
             yield "snapshot of former rows"
 
 
-def opened_script(draw):
+def opened_script(draw, apps):
     """A script without events."""
     partitions, replicas = draw.choice([1, 1, 2, 2, 3]), draw.choice([1, 2, 3, 3, 5])
-    script = {"partitions": partitions, "replicas": replicas, "app": draw.choice(["kv", "kv", "stock", "once"]), "events": []}
+    script = {"partitions": partitions, "replicas": replicas, "app": draw.choice(apps), "events": []}
     delay, woven_from = draw.choice([0, 1, 1, 2, 3, 16]), draw.choice([0, 0, 1, 2, 2**48 - 1])
     return {**script, **draw.choice([{}, {"delay": delay}]), **draw.choice([{}, {"woven_from": woven_from}])}
 
 
-def drawn_script(draw, counts):
+def drawn_script(draw, counts, apps=("kv", "kv", "stock", "once"), lengths=(100, 400, 1000)):
     """A script of events, and what has to be printed for it."""
-    script, told = opened_script(draw), []
+    script, told = opened_script(draw, apps), []
     world, app, events = plain_world.opened(script), script["app"], script["events"]
     shares, past = (draw.choice([0, 0.2, 1]), draw.choice([0, 2]), 4 if "delay" in script else 0), Past()
     left_out = draw.choice([0, 4])
-    for number in range(draw.choice([100, 400, 1000])):
+    for number in range(draw.choice(lengths)):
         for left in range(left_out, -1, -1):
             event = drawn_event(draw, world, app, number + 1, shares, past)
             kinds = list(kinds_of(world, event))

@@ -3,6 +3,7 @@ pub mod Asked
 pub mod Distinct
 pub mod Ends
 pub mod Fresh
+mod Listed
 pub mod Puts
 pub mod Results
 pub mod RowTables

@@ -1,7 +1,7 @@
 //! Requests run one at a time, on one undivided map: what every other run of them has to agree with (Thomson et al.
 //! 2012, section 3: the order of requests is fixed first, and execution is equivalent to running them serially in it).
 ghost use Rattle.calvin_app.specs.declared.answer.Answer.TheVariants.{Changed, Reply};
-ghost use Rattle.std.specs.Prelude.{◌≡◌, ◌≢◌, ◌↔◌, ◌⊎◌, IfOk, IfErr, OnOk, OnErr, IsOkUnless, [], false, IsOk, IsErrOf};
+ghost use Rattle.std.specs.Prelude.{◌≡◌, ◌≢◌, ◌↔◌, ◌⊎◌, IfOk, IfErr, OnOk, OnErr, IsOkUnless, [], true, false, IsOk, IsErrOf};
 ghost use Rattle.std.specs.FinMap as map;
 ghost use Rattle.calvin_types.specs.Keys.{are_distinct};
 ghost use Rattle.calvin_app.specs.Rows.{view, overwritten};
@@ -14,7 +14,7 @@ use crate::table::Table;
 use crate::view::View;
 use crate::writes::Writes;
 use calvin_types::{Fault, Key, KeySet, Sets, Txn};
-use std::alloc::Global;
+use std::alloc::{AllocError, Global};
 use std::marker::Model;
 
 /// An application with all rows on one map, which runs one request after another. Contracts see it as its rows.
@@ -74,6 +74,16 @@ impl<A: App> Serial<A> {
         ensures { result.now ≡ self.now }
     {
         &self.rows
+    }
+
+    /// All rows with their keys, in ascending order of the keys: `from_rows` takes them, and has the same rows again. Refused for
+    /// want of memory.
+    pub fn to_rows(&self, alloc: Global) -> Result<Vec<(Key, A::Row)>, AllocError>
+        ensures rows { IfOk result (λ rows. rows.items ≡ map.entries self.now) }
+        ensures whole { IfOk result (λ rows. overwritten map.empty rows.items ≡ self.now) }
+        ensures distinct { IfOk result (λ rows. are_distinct (keys_of rows.items) ≡ true) }
+    {
+        self.rows.to_vec(alloc)
     }
 
     /// Runs one request: it is answered `Changed` where its declared sets aren't, key for key, those that it needs on

@@ -1,8 +1,9 @@
 //! All rows, in memory.
-ghost use Rattle.std.specs.Prelude.{◌≡◌, ◌+◌, ◌<◌, ◌≤◌, ◌↔◌, ◌⊎◌, false, [], is_some, IfOk, IfErr, IsOk, IsErrOf, OnOk, OnErr, IsOkUnless};
+ghost use Rattle.std.specs.Prelude.{◌≡◌, ◌+◌, ◌<◌, ◌≤◌, ◌↔◌, ◌⊎◌, true, false, [], is_some, IfOk, IfErr, IsOk, IsErrOf, OnOk, OnErr, IsOkUnless};
 ghost use Rattle.std.specs.FinMap as map;
-ghost use Rattle.std.specs.HashMap.{spare};
+ghost use Rattle.std.specs.HashMap.{spare, IsUnique};
 ghost use Rattle.calvin_types.specs.Keys.{key_cmp, has, are_distinct};
+ghost use Rattle.calvin_types.specs.SameKeys.{equal_keys};
 ghost use Rattle.calvin_app.specs.Rows.{view, overwritten};
 ghost use Rattle.calvin_app.specs.Writing.{keys_of};
 
@@ -10,7 +11,7 @@ use crate::look::{Look, look_up};
 use crate::view::View;
 use crate::writes::Writes;
 use calvin_types::{Fault, Key, KeySet};
-use std::alloc::Global;
+use std::alloc::{AllocError, Global};
 use std::collections::HashMap;
 use std::marker::Model;
 
@@ -85,6 +86,18 @@ impl<Row: Copy> Table<Row> {
         look_up(self, keys, seen);
     }
 
+    /// All rows with their keys, in ascending order of the keys. Refused for want of memory.
+    pub fn to_vec(&self, alloc: Global) -> Result<Vec<(Key, Row)>, AllocError>
+        ensures rows { IfOk result (λ rows. rows.items ≡ map.entries self.now) }
+        // So they make the same rows again.
+        ensures whole { IfOk result (λ rows. overwritten map.empty rows.items ≡ self.now) }
+        ensures distinct { IfOk result (λ rows. are_distinct (keys_of rows.items) ≡ true) }
+    {
+        let mut rows = entries_of(alloc, &self.rows)?;
+        rows.sort_unstable_by_key(key_of);
+        Ok(rows)
+    }
+
     /// Overwrites rows, all of them or none: refused for want of memory before the first is written, and never where
     /// there is none to write.
     pub fn overwrite(&mut self, writes: &Writes<Row>) -> Result<(), Fault>
@@ -101,6 +114,29 @@ impl<Row: Copy> Table<Row> {
         }
         Ok(())
     }
+}
+
+/// The key of a row.
+fn key_of<Row: Copy>(row: &(Key, Row)) -> Key
+    ensures { result ≡ row.now.0 }
+{
+    row.0
+}
+
+/// All rows with their keys, as they lie there.
+fn entries_of<Row: Copy>(
+    alloc: Global,
+    rows: &HashMap<Key, Row>,
+) -> Result<Vec<(Key, Row)>, AllocError>
+    ensures entries { IfOk result (λ all. all.items ≡ rows.now.entries) }
+    ensures unique { IsUnique equal_keys rows.now }
+{
+    let entries = rows.iter();
+    let mut all = Vec::with_capacity(alloc, entries.len())?;
+    for (key, row) in entries {
+        all.push((*key, *row))?;
+    }
+    Ok(all)
 }
 
 /// Puts a row under a key where there is room for one, and says whether the key had one.

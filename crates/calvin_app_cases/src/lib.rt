@@ -15,3 +15,7 @@ mod last_first;
 mod locks;
 #[cfg(test)]
 mod rows_seen;
+#[cfg(test)]
+mod scarce_locks;
+#[cfg(test)]
+mod scarce_runs;

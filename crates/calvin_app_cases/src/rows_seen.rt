@@ -1,7 +1,7 @@
 //! What holds rows: tables, views, writes and jobs.
 use crate::checks::{holds, same};
 use crate::kv::{declared, key, set, txn};
-use calvin_app::{Answer, Job, Kv, KvReply, KvRequest, Table, View, Writes};
+use calvin_app::{Answer, Job, Kv, KvReply, KvRequest, Serial, Table, View, Writes};
 use calvin_types::{Fault, Key, KeySet, Place};
 use std::alloc::Global;
 use std::test::Fail;
@@ -25,6 +25,23 @@ fn tables(rt: HostRuntime) -> Result<(), Fail> {
         same(&rt, table.get(&key), row);
         same(&rt, view.get(&key), seen);
     }
+    Ok(())
+}
+
+#[test]
+fn all_rows_come_by_ascending_key(rt: HostRuntime) -> Result<(), Fail> {
+    let alloc = rt.alloc();
+    let other = Key { table: 1, id: 3 };
+    let serial = Serial::from_rows(alloc, Kv, &[(other, 30), (key(9), 90), (key(2), 20)])?;
+    let all = serial.to_rows(alloc)?;
+    let wanted = [(key(2), 20), (key(9), 90), (other, 30)];
+    same(&rt, all.as_slice(), wanted.as_slice());
+    let again = Serial::from_rows(alloc, Kv, &all)?;
+    same(&rt, again.rows().get(&other), Some(30));
+    same(&rt, again.rows().get(&key(9)), Some(90));
+    same(&rt, again.rows().get(&key(3)), None);
+    let none = Serial::new(alloc, Kv);
+    same(&rt, none.to_rows(alloc)?.len(), 0);
     Ok(())
 }
 

@@ -12,6 +12,8 @@ mod plain;
 #[cfg(test)]
 mod plain_kv;
 #[cfg(test)]
+mod scarce_replica;
+#[cfg(test)]
 mod shown;
 #[cfg(test)]
 mod two_partitions;

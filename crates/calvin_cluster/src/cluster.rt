@@ -9,7 +9,7 @@ use crate::threads::{Crew, Hired};
 use calvin_app::{Answer, App};
 use calvin_book::Book;
 use calvin_chronicle::{Mark, Opened};
-use calvin_cluster_desk::{Desk, Founding, Office, Seats, Stopped, Ticket, Told};
+use calvin_cluster_desk::{Desk, Drill, Founding, NO_DRILL, Office, Seats, Stopped, Ticket, Told};
 use calvin_lock::{Locks, QueueLocks};
 use calvin_store::{ColdRows, Rows};
 use calvin_types::{Fault, NodeId, Sets, Txn};
@@ -171,6 +171,26 @@ where
         ensures back { IfErr result (λ refused. refused.1 ≡ book) }
         ensures only { IfErr result (λ refused. (((workers ≡ 0) ⊎ (MOST_WORKERS < workers)) × (refused.0 ≡ Fault.BadWorkers)) ⊎ ((0 < workers) × (workers ≤ MOST_WORKERS) × (refused.0 ≡ Fault.OutOfMemory))) }
     {
+        Self::open_in_drill(rt, alloc, app, opened, book, gate, workers, NO_DRILL)
+    }
+
+    /// Starts couriers and workers over a book in which a drill goes on from now on. Refused as `open` is.
+    pub fn open_in_drill<R: Threads + Wait + Copy + Send + Sync + 'static>(
+        rt: R,
+        alloc: Global,
+        app: A,
+        opened: Opened<Event<A::Args>>,
+        book: Book<A, L, S>,
+        gate: G,
+        workers: usize,
+        drill: Drill,
+    ) -> Result<Cluster<A, L, S, G, J>, (Fault, Book<A, L, S>)>
+        requires opened { opened ≡ J.book }
+        requires config { book.config ≡ J.config }
+        ensures start { IfOk result (λ c. c.start ≡ book.events) }
+        ensures back { IfErr result (λ refused. refused.1 ≡ book) }
+        ensures only { IfErr result (λ refused. (((workers ≡ 0) ⊎ (MOST_WORKERS < workers)) × (refused.0 ≡ Fault.BadWorkers)) ⊎ ((0 < workers) × (workers ≤ MOST_WORKERS) × (refused.0 ≡ Fault.OutOfMemory))) }
+    {
         if workers == 0 {
             return Err((Fault::BadWorkers, book));
         }
@@ -192,7 +212,7 @@ where
                 return Err((Fault::OutOfMemory, book));
             }
         };
-        let crew = hired.begin(&rt, Office::new(alloc, desk, seats));
+        let crew = hired.begin(&rt, Office::new(alloc, desk, seats, drill));
         Ok(Cluster { crew, app, start })
     }
 

@@ -120,14 +120,12 @@ where
 {
     let mut slot = shared.hall.lock(rt);
     if let Some(hall) = &mut *slot {
-        hall.office.deliver(number);
-        hall.office.is_back();
+        hall.office.hand_over(number);
         for _ in 1..MOST_AT_ONCE {
             let Ok(next) = letters.try_recv(rt) else {
                 break;
             };
-            hall.office.deliver(next);
-            hall.office.is_back();
+            hall.office.hand_over(next);
         }
         shared.go_on(rt, hall);
     }

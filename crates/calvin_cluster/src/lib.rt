@@ -8,6 +8,6 @@ mod gate;
 mod threads;
 
 pub use calvin_chronicle::{Naming, Opened};
-pub use calvin_cluster_desk::{Founding, Report, Stopped, Ticket, Told};
+pub use calvin_cluster_desk::{Drill, Founding, NO_DRILL, Report, Stopped, Ticket, Told};
 pub use cluster::{Cluster, MOST_WORKERS, StoreCluster};
 pub use gate::{Gate, Open};

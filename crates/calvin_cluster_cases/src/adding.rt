@@ -1,10 +1,9 @@
 //! Four callers add to one number.
-use crate::gates::Holds;
-use crate::running::{Calls, Case, run};
+use crate::running::{Calls, Case, ONE_NODE, run};
 use crate::stores::{Handed, KvCluster, ask, node, request, same};
 use calvin_app::{Answer, Kv, KvReply, KvRequest};
 use calvin_book::StoreBook;
-use calvin_cluster::Founding;
+use calvin_cluster::{Drill, Founding, NO_DRILL};
 use calvin_node::Act;
 use calvin_types::Fault;
 use calvin_world::Event;
@@ -50,6 +49,29 @@ pub(crate) fn add_hundred<J: Founding + 'static, R: Threads + Wait + Copy + Send
     Ok(all)
 }
 
+/// The greatest epoch that callers were told of.
+fn last_told<J: Founding>(handed: &[Handed<J>]) -> Option<u64> {
+    let mut last = None;
+    for one in handed {
+        if let Some((_answer, told)) = &one.heard {
+            last = last.max(told.epoch());
+        }
+    }
+    last
+}
+
+/// They do so, and every node comes to stand at the last epoch that they are told of.
+pub(crate) fn add_until_all_stand<
+    J: Founding + 'static,
+    R: Threads + Wait + Copy + Send + Sync + 'static,
+>(rt: R, alloc: Global, cluster: &KvCluster<J>) -> Result<Vec<Handed<J>>, Fault> {
+    let all = add_hundred(rt, alloc, cluster)?;
+    if let Some(epoch) = last_told(&all) {
+        cluster.wait_all(&rt, epoch)?;
+    }
+    Ok(all)
+}
+
 /// How many requests a book's events submit.
 fn submissions(book: &StoreBook<Kv>) -> usize {
     let is_submission = |event: &&Event<KvRequest>| matches!(event, Event::At(_, Act::Submit(_)));
@@ -84,15 +106,66 @@ pub(crate) fn check_hundred<J: Founding, R: Abort>(
     Ok(())
 }
 
-#[test]
-fn hundred_adds(rt: HostRuntime) -> Result<(), Fail> {
-    let case = Case {
+/// Two partitions in three replicas, at which four callers add to one number while a drill goes on.
+fn in_drill(drill: Drill, calls: Calls) -> Case {
+    Case {
         partitions: 2,
         replicas: 3,
         workers: 4,
-        holds: Holds::Nobody,
-        calls: Calls::AddHundred,
-        runs: None,
+        drill,
+        calls,
+        ..ONE_NODE
+    }
+}
+
+#[test]
+fn hundred_adds(rt: HostRuntime) -> Result<(), Fail> {
+    let case = in_drill(NO_DRILL, Calls::AddHundred);
+    Ok(run(rt, rt.alloc(), &case)?)
+}
+
+/// Couriers lose every third packet, and deliver every fifth twice: the same answers, and all nodes have come as far at the end.
+#[test]
+fn lossy_couriers(rt: HostRuntime) -> Result<(), Fail> {
+    let drill = Drill {
+        lose_every: 3,
+        double_every: 5,
+        ..NO_DRILL
     };
+    let case = in_drill(drill, Calls::AddUntilAllStand);
+    Ok(run(rt, rt.alloc(), &case)?)
+}
+
+/// Nodes of replicas 1 and 2 restart: the same answers, and all of them come back.
+#[test]
+fn nodes_restart(rt: HostRuntime) -> Result<(), Fail> {
+    let drill = Drill {
+        restart_every: 800,
+        ..NO_DRILL
+    };
+    let case = in_drill(drill, Calls::AddUntilAllStand);
+    Ok(run(rt, rt.alloc(), &case)?)
+}
+
+/// They do so while packets are lost and come twice.
+#[test]
+fn nodes_restart_and_couriers_lose(rt: HostRuntime) -> Result<(), Fail> {
+    let drill = Drill {
+        lose_every: 3,
+        double_every: 5,
+        restart_every: 800,
+    };
+    let case = in_drill(drill, Calls::AddUntilAllStand);
+    Ok(run(rt, rt.alloc(), &case)?)
+}
+
+/// They restart so often that they hardly come back between: the same answers.
+#[test]
+fn nodes_restart_all_the_time(rt: HostRuntime) -> Result<(), Fail> {
+    let drill = Drill {
+        restart_every: 50,
+        ..NO_DRILL
+    };
+    let case = in_drill(drill, Calls::AddHundred);
     Ok(run(rt, rt.alloc(), &case)?)
 }

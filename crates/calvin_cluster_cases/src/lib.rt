@@ -6,6 +6,8 @@ mod adding;
 #[cfg(test)]
 mod bounds;
 #[cfg(test)]
+mod drills;
+#[cfg(test)]
 mod gates;
 mod giving_back;
 #[cfg(test)]

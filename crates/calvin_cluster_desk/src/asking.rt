@@ -12,6 +12,8 @@ use calvin_world::Event;
 const MOST_ROUNDS: u32 = 64;
 /// Of so many epochs a node asks for batches at a time.
 const MOST_EPOCHS_ASKED: u64 = 64;
+/// So often the same is asked for at a time.
+const MOST_TIMES: u32 = 3;
 
 impl<A: App + Drop, L: Locks + Drop, S: Rows<A::Row> + Drop, J: Founding> Office<A, L, S, J> {
     /// Each node does what it can, and asks for what it lacks: unless that was done 64 times and nothing came of it.
@@ -30,6 +32,12 @@ impl<A: App + Drop, L: Locks + Drop, S: Rows<A::Row> + Drop, J: Founding> Office
                 self.ask_at(id, epochs);
             }
         }
+    }
+
+    /// How often the same is asked for at a time: once at first, and twice, three times and once again where nothing came of it.
+    /// Where every so many packets are lost, what is lost would be the same each time else.
+    fn times(&self) -> u32 {
+        self.rounds.saturating_sub(1) % MOST_TIMES + 1
     }
 
     /// How many epochs were closed at some node, or are known as decided there.
@@ -111,8 +119,15 @@ impl<A: App + Drop, L: Locks + Drop, S: Rows<A::Row> + Drop, J: Founding> Office
                 let _proposed = self.desk.record(&Event::At(id, Act::Propose(epoch)));
             }
             if let Some(of) = self.holder(slot) {
-                let _asked = self.desk.record(&Event::At(id, Act::AskForBatch(slot, of)));
+                self.ask(id, Act::AskForBatch(slot, of));
             }
+        }
+    }
+
+    /// A node asks for something as often as it is to be asked for now.
+    fn ask(&mut self, id: NodeId, act: Act<A::Args>) {
+        for _ in 0..self.times() {
+            let _asked = self.desk.record(&Event::At(id, act));
         }
     }
 
@@ -154,9 +169,7 @@ impl<A: App + Drop, L: Locks + Drop, S: Rows<A::Row> + Drop, J: Founding> Office
     fn ask_for_place(&mut self, id: NodeId, place: Place) {
         match self.desk.book.job(id, place) {
             Ok(_) => self.run_if_due(id, place),
-            Err(Fault::ReadsMissing) => {
-                let _asked = self.desk.record(&Event::At(id, Act::AskForReads(place, 0)));
-            }
+            Err(Fault::ReadsMissing) => self.ask(id, Act::AskForReads(place, 0)),
             Err(_) => self.begin(id, place),
         }
     }

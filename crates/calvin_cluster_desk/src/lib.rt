@@ -5,7 +5,9 @@
 mod asking;
 mod closing;
 mod desk;
+mod drill;
 mod errands;
+mod handing_over;
 mod office;
 mod receipt;
 mod running;
@@ -14,6 +16,7 @@ mod seat;
 mod stopped;
 
 pub use desk::{Desk, Founded};
+pub use drill::{Drill, NO_DRILL};
 pub use errands::Errand;
 pub use office::{News, Office};
 pub use receipt::{Founding, Report, Ticket, Told};

@@ -3,6 +3,7 @@ ghost use Rattle.std.specs.Prelude.{◌≡◌, ◌≢◌, IfOk, IfSome, None};
 ghost use Rattle.calvin_cluster_desk.specs.Receipts.{told_epoch};
 
 use crate::desk::Desk;
+use crate::drill::Drill;
 use crate::errands::Errand;
 use crate::receipt::{Founding, Ticket, Told};
 use crate::seat::{Seat, Seats};
@@ -30,6 +31,9 @@ pub struct Office<A: App + Drop, L: Locks + Drop, S: Rows<A::Row> + Drop, J: Fou
     under_way: usize,
     /// How often what is missing was asked for since something came of it.
     pub(crate) rounds: u32,
+    pub(crate) drill: Drill,
+    /// How many packets couriers have delivered, each as often as it came.
+    pub(crate) delivered: usize,
     /// Whether a request was answered, and whether a node came to stand at a later epoch, since that was asked last.
     news: News,
 }
@@ -47,8 +51,14 @@ const NO_NEWS: News = News {
 };
 
 impl<A: App + Drop, L: Locks + Drop, S: Rows<A::Row> + Drop, J: Founding> Office<A, L, S, J> {
-    /// An office in which nothing is under way: of the packets that were sent before none is handed out. Each node does what it can.
-    pub fn new(alloc: Global, desk: Desk<A, L, S, J>, seats: Seats) -> Office<A, L, S, J> {
+    /// An office in which nothing is under way: of the packets that were sent before none is handed out. Each node does what it can,
+    /// and what the drill says goes wrong.
+    pub fn new(
+        alloc: Global,
+        desk: Desk<A, L, S, J>,
+        seats: Seats,
+        drill: Drill,
+    ) -> Office<A, L, S, J> {
         let handed = desk.book.world().packets().len();
         Office {
             desk,
@@ -57,6 +67,8 @@ impl<A: App + Drop, L: Locks + Drop, S: Rows<A::Row> + Drop, J: Founding> Office
             handed,
             under_way: 0,
             rounds: 0,
+            drill,
+            delivered: 0,
             news: NO_NEWS,
         }
     }

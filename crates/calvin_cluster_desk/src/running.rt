@@ -49,7 +49,7 @@ fn aim<Args: Copy, Row: Copy, Reply: Copy>(
 impl<A: App + Drop, L: Locks + Drop, S: Rows<A::Row> + Drop, J: Founding> Office<A, L, S, J> {
     /// A packet is delivered, and its node does what it can then. One with rows for a request that hasn't asked for its locks yet
     /// waits until its epoch is merged.
-    pub fn deliver(&mut self, number: usize) {
+    pub(crate) fn deliver(&mut self, number: usize) {
         let Some(packet) = self.world().packets().get(number) else {
             return;
         };

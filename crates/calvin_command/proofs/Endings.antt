@@ -12,8 +12,10 @@ use Rattle.calvin_serial.specs.Engine.{IsSerialFault}
 use Rattle.calvin_check.specs.Checks.{IsCheckFault}
 use Rattle.calvin_sim.specs.Engine.{sim_script, IsSimFault}
 use Rattle.calvin_run.specs.Engine.{IsRunFault, RefusesRun}
-use Rattle.calvin_command.specs.Ends.{Runs, StopsEarly, Tells}
-use Rattle.calvin_command.specs.Statuses.{status_of, IsStatus}
+use Rattle.calvin_command.specs.Ends.{Runs, StopsEarly}
+use Rattle.calvin_ending.specs.Telling.{Tells}
+use Rattle.calvin_ending.proofs.NeverWell.{never_well}
+use Rattle.calvin_ending.specs.Statuses.{status_of, IsStatus}
 
 -- a fault of the engine `serial` ends with one of the statuses
 pub serial_status : (fault : Fault) → IsSerialFault fault → IsStatus (status_of fault)
@@ -53,16 +55,6 @@ run_status NotEnded h = inr (inr (inl refl))
 run_status fault h = sim_status fault h
 
 -- ---- a run that ended by a fault
-
-never_well : (fault : Fault) → status_of fault ≡ 0 → ⊥
-never_well OutOfMemory e = omega (arith, e)
-never_well NotExpected e = omega (arith, e)
-never_well Closed e = omega (arith, e)
-never_well NoRun e = omega (arith, e)
-never_well NotEnded e = omega (arith, e)
-never_well ReadFailed e = omega (arith, e)
-never_well WriteFailed e = omega (arith, e)
-never_well _ e = omega (arith, e)
 
 is_refusal : {X : Type 0} (fault : Fault) (answer : Result X Fault) → status_of fault ≡ 2 → Refuses fault answer → answer ≡ Err fault
 is_refusal OutOfMemory answer e refuses = absurd (omega (arith, e))

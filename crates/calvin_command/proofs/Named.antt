@@ -143,4 +143,4 @@ taken_line words taken (inr (inr (inl named))) = inr (inr (inl (taken, named)))
 taken_line words taken (inr (inr (inr named))) = inr (inr (inr (taken, named)))
 
 pub is_taken_line : (words : List Text) → IsTaken words → IsSerialLine words ⊎ IsCheckLine words ⊎ IsSimLine words ⊎ IsRunLine words
-is_taken_line words taken = taken_line words taken (is_named_line words taken)
+is_taken_line words taken = taken_line words taken (is_named_line words taken.0)

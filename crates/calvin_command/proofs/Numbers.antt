@@ -21,7 +21,7 @@ use Rattle.clap.specs.declared.parser.matches.ValueSource.{ValueSource}
 use Rattle.clap.specs.declared.parser.matches.ValueSource.TheVariants.{DefaultValue}
 use Rattle.clap.proofs.WalkLemmas.{both}
 use Rattle.clap.proofs.ValueTestLemmas.{Accepts-accepts, accepts-Accepts}
-use Rattle.calvin_command.specs.Line.{flag, number_option, number_in, number_of}
+use Rattle.calvin_options.specs.Options.{flag, number_option, optional_number, number_in, number_of}
 use Rattle.calvin_command.proofs.Rows.{Each, IsUsedWell, HasGoodDefault, first_empty, second_empty, not_empty}
 
 -- the first of the values passes the argument's parser
@@ -71,15 +71,34 @@ module _ (c : List Rule) where
       let more : (0 == suc n) ≡ false = ne_eqb 0 (suc n) (λ e. omega arith) in
       not_empty _ _ (rw more at none)
 
-  pub number_used : (name : Text) (least most : ℕ) (default : Text) → arg_by_id c name ≡ Some (filled (number_option name least most default))
-      → (again : Bool) → IsUsedWell (Each (IsPassed c)) again (filled (number_option name least most default))
-  number_used name least most default found again [] rows none each = absurd (not_empty _ _ none)
-  number_used name least most default found again (v ∷ vs) rows none each =
+  -- an option that takes a number and has these defaults, if any
+  abbrev with_defaults : Text → ℕ → ℕ → List Text → Rule
+  with_defaults name least most defaults = record (optional_number name least most) { defaults = defaults }
+
+  rule_used : (name : Text) (least most : ℕ) (defaults : List Text) → arg_by_id c name ≡ Some (filled (with_defaults name least most defaults))
+      → (again : Bool) → IsUsedWell (Each (IsPassed c)) again (filled (with_defaults name least most defaults))
+  rule_used name least most defaults found again [] rows none each = absurd (not_empty _ _ none)
+  rule_used name least most defaults found again (v ∷ vs) rows none each =
       let after_range = second_empty (range_kinds 1 1 (length (v ∷ vs))) _ none in
       let after_repeat = second_empty (repeat_fault again name rows) _ after_range in
       let parser = Unsigned least most in
       let passed = value_accepted false parser v (first_empty (value_kinds false parser v) (values_kinds false parser vs) after_repeat) in
       with_values_pass name _ _ (v ∷ vs) (subst (λ o. FirstPasses o (v ∷ vs)) (sym found) passed) (without name rows) (without_pass name rows each)
+
+  pub number_used : (name : Text) (least most : ℕ) (default : Text) → arg_by_id c name ≡ Some (filled (number_option name least most default))
+      → (again : Bool) → IsUsedWell (Each (IsPassed c)) again (filled (number_option name least most default))
+  number_used name least most default = rule_used name least most (default ∷ [])
+
+  pub optional_used : (name : Text) (least most : ℕ) → arg_by_id c name ≡ Some (filled (optional_number name least most))
+      → (again : Bool) → IsUsedWell (Each (IsPassed c)) again (filled (optional_number name least most))
+  optional_used name least most = rule_used name least most []
+
+  pub optional_default : (name : Text) (least most : ℕ) → HasGoodDefault (Each (IsPassed c)) (filled (optional_number name least most))
+  optional_default name least most rows none each = go (has_row name rows)
+    where
+      go : (b : Bool) → Each (IsPassed c) (cond b rows rows)
+      go true = each
+      go false = each
 
   pub number_default : (name : Text) (least most : ℕ) (default : Text) → arg_by_id c name ≡ Some (filled (number_option name least most default))
       → HasGoodDefault (Each (IsPassed c)) (filled (number_option name least most default))
@@ -203,35 +222,3 @@ number_found c name least most default found (r ∷ rs) each has = go (bytes_eq 
         let passed : FirstPasses (arg_by_id c name) r.values = subst (λ (id : Text). FirstPasses (arg_by_id c id) r.values) same each.0 in
         first_number least most default name r.values (subst (λ o. FirstPasses o r.values) found passed)
     go false is has rest = rest has
-
--- ---- what reading a text as a number gives
-
-tested : (text : Text) → IsNumeral 10 (without_leading_plus text) → digits_value 10 (without_leading_plus text) < 2 ^ 64
-    → (is_numeral (without_leading_plus text) && nat_lt (digits_value 10 (without_leading_plus text)) (2 ^ 64)) ≡ true
-tested text numeral below =
-    let digits = without_leading_plus text in
-    let n = digits_value 10 digits in
-    let passed = Accepts-accepts false (Unsigned 0 18446744073709551615) text (numeral, below, omega arith, omega arith) in
-    let first = both (is_numeral digits) (nat_lt n (2 ^ 64) && (nat_le 0 n && nat_le n 18446744073709551615)) passed in
-    rw (first.0, lt-ltb n (2 ^ 64) below) refl
-
-numeral_of : (text : Text) → is_numeral (without_leading_plus text) ≡ true → digits_value 10 (without_leading_plus text) < 2 ^ 64
-    → IsNumeral 10 (without_leading_plus text)
-numeral_of text numeral below =
-    let n = digits_value 10 (without_leading_plus text) in
-    (accepts-Accepts false (Unsigned 0 18446744073709551615) text
-    (rw (numeral, lt-ltb n (2 ^ 64) below, le-leb 0 n (omega arith), le-leb n 18446744073709551615 (omega arith)) refl)).0
-
-pub parsed_number : {E : Type 0} (text : Text) (r : Result ℕ E) → ParsesUnsigned 64 10 text r → result_ok r ≡ number_in text
-parsed_number text (Ok n) h = rw (tested text h.0.0 h.0.1) (ap Some h.1)
-parsed_number text (Err e) h = go (is_numeral digits && nat_lt (digits_value 10 digits) (2 ^ 64)) refl
-  where
-    digits : Text
-    digits = without_leading_plus text
-
-    go : (b : Bool) → (is_numeral digits && nat_lt (digits_value 10 digits) (2 ^ 64)) ≡ b → None ≡ cond b (Some (digits_value 10 digits)) None
-    go true passed =
-        let parts = both (is_numeral digits) (nat_lt (digits_value 10 digits) (2 ^ 64)) passed in
-        let below = ltb-true _ _ parts.1 in
-        absurd (h (numeral_of text parts.0 below, below))
-    go false passed = refl

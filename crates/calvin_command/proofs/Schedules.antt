@@ -1,5 +1,5 @@
 -- A line for `sim` asks for a schedule, and no refusal comes of it.
-use Rattle.std.proofs.Common.{◌≡◌, false, List, [], Option, Some, Ok, refl, sym, ap, subst, drop, codes, arith}
+use Rattle.std.proofs.Common.{◌≡◌, ◌-◌, ℕ, false, List, [], Option, Some, Ok, IfSome, refl, sym, ap, subst, drop, codes, arith}
 use Rattle.std.specs.List.{fold}
 use Rattle.clap.specs.Simple.{Shape, filled, rows_at}
 use Rattle.clap.specs.Faults.{level_fault}
@@ -12,9 +12,10 @@ use Rattle.calvin_sim_events.specs.declared.schedule.Schedule.{Schedule}
 use Rattle.calvin_sim_events.specs.declared.schedule.TheConstants.{MOST_STEPS}
 use Rattle.calvin_command.specs.declared.wishes.Wish.{Wish}
 use Rattle.calvin_command.specs.declared.wishes.Wish.TheVariants.{Sim}
-use Rattle.calvin_command.specs.Line.{calvin, rows_found, restarts_of, start_option, steps_option, replicas_option, IsScheduleOf, IsAsked, IsSim, IsSimLine}
+use Rattle.calvin_options.specs.Options.{has_flag, number_of, rows_found}
+use Rattle.calvin_command.specs.Line.{calvin, restarts_of, start_option, steps_option, replicas_option, LosesWell, IsScheduleOf, IsAsked, IsSim, IsSimLine}
 use Rattle.calvin_command.proofs.Entered.{named_good, other, shape}
-use Rattle.calvin_command.proofs.Numbers.{HasNumber, IsPassed, default_makes, defaults_all_keep, flag_default, flag_used, help_default, help_used, number_default, number_found, number_used}
+use Rattle.calvin_command.proofs.Numbers.{HasNumber, IsPassed, default_makes, defaults_all_keep, flag_default, flag_used, help_default, help_used, number_default, number_found, number_used, optional_default, optional_used}
 use Rattle.calvin_command.proofs.Rows.{Each, HasGoodDefault, IsUsedWell, level_good}
 use Rattle.calvin_command.proofs.Words.{name_is}
 
@@ -30,7 +31,13 @@ uses = (
       number_used sim.rules (codes "replicas") 1 MOST_REPLICAS (codes "3") refl false,
       (
         flag_used sim.rules (codes "restarts") refl false,
-        (help_used sim.rules false, tt),
+        (
+          flag_used sim.rules (codes "repeat") refl false,
+          (
+            optional_used sim.rules (codes "lose") 1 (MOST_REPLICAS - 1) refl false,
+            (help_used sim.rules false, tt),
+          ),
+        ),
       ),
     ),
   ),
@@ -45,7 +52,13 @@ defaults = (
       number_default sim.rules (codes "replicas") 1 MOST_REPLICAS (codes "3") refl,
       (
         flag_default sim.rules (codes "restarts") refl,
-        (help_default sim.rules, tt),
+        (
+          flag_default sim.rules (codes "repeat") refl,
+          (
+            optional_default sim.rules (codes "lose") 1 (MOST_REPLICAS - 1),
+            (help_default sim.rules, tt),
+          ),
+        ),
       ),
     ),
   ),
@@ -81,10 +94,11 @@ line_numbers : (words : List Text) → IsSimLine words → HasNumbers (rows_foun
 line_numbers words line =
     let absent = other (codes "sim") HasNumbers in
     named_good (codes "sim") HasNumbers (absent (shape 0) refl, (absent (shape 1) refl, (λ same. sim_numbers, (absent (shape 3) refl, (absent (shape 4) refl, tt)))))
-    words line.0 line.1
+    words line.0.0 line.1
 
-schedule_of : (rows : List Row) → HasNumbers rows → (schedule : Schedule) × IsScheduleOf rows schedule
-schedule_of rows numbers =
+schedule_of : (rows : List Row) → HasNumbers rows → IfSome (number_of (codes "replicas") rows) (λ replicas. LosesWell replicas rows)
+    → (schedule : Schedule) × IsScheduleOf rows schedule
+schedule_of rows numbers well =
     let range : IsInRange 1 numbers.replicas.0 = record {
       some_partition = omega arith;
       partitions_at_most = omega arith;
@@ -96,6 +110,8 @@ schedule_of rows numbers =
         steps = numbers.steps.0;
         replicas = numbers.replicas.0;
         restarts = restarts_of rows;
+        repeats = has_flag (codes "repeat") rows;
+        lost = number_of (codes "lose") rows;
         in_range = range;
       },
       record {
@@ -103,12 +119,15 @@ schedule_of rows numbers =
         steps = numbers.steps.1;
         replicas = numbers.replicas.1;
         restarts = refl;
+        repeats = refl;
+        lost = refl;
         steps_at_most = numbers.steps.3;
+        loses_well = subst (λ (o : Option ℕ). IfSome o (λ replicas. LosesWell replicas rows)) numbers.replicas.1 well;
       },
     )
 
 pub asked_of : (words : List Text) → IsSimLine words → (schedule : Schedule) × IsAsked words schedule
-asked_of words line = schedule_of (rows_found (subcommand_of calvin words)) (line_numbers words line)
+asked_of words line = schedule_of (rows_found (subcommand_of calvin words)) (line_numbers words line) (line.0.1 line.1)
 
 -- what the matches of such a line ask for, of which the schedule is so, where it can be had
 pub sim_wish : (words : List Text) (m : ArgMatches) (result : Option Wish) → subcommand_rows_of m ≡ subcommand_of calvin words

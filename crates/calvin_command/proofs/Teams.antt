@@ -12,7 +12,8 @@ use Rattle.calvin_cluster.specs.declared.cluster.TheConstants.{MOST_WORKERS}
 use Rattle.calvin_run.specs.declared.team.Team.{Team}
 use Rattle.calvin_command.specs.declared.wishes.Wish.{Wish}
 use Rattle.calvin_command.specs.declared.wishes.Wish.TheVariants.{Run}
-use Rattle.calvin_command.specs.Line.{calvin, rows_found, replicas_option, workers_option, IsTeamOf, IsTeamAsked, IsRun, IsRunLine}
+use Rattle.calvin_options.specs.Options.{rows_found}
+use Rattle.calvin_command.specs.Line.{calvin, replicas_option, workers_option, IsTeamOf, IsTeamAsked, IsRun, IsRunLine}
 use Rattle.calvin_command.proofs.Entered.{named_good, other, shape}
 use Rattle.calvin_command.proofs.Numbers.{HasNumber, IsPassed, default_makes, defaults_all_keep, help_default, help_used, number_default, number_found, number_used}
 use Rattle.calvin_command.proofs.Rows.{Each, HasGoodDefault, IsUsedWell, level_good}
@@ -65,7 +66,7 @@ line_numbers : (words : List Text) → IsRunLine words → HasNumbers (rows_foun
 line_numbers words line =
     let absent = other (codes "run") HasNumbers in
     named_good (codes "run") HasNumbers (absent (shape 0) refl, (absent (shape 1) refl, (absent (shape 2) refl, (λ same. run_numbers, (absent (shape 4) refl, tt)))))
-    words line.0 line.1
+    words line.0.0 line.1
 
 team_of : (rows : List Row) → HasNumbers rows → (team : Team) × IsTeamOf rows team
 team_of rows numbers =

@@ -1,9 +1,8 @@
 -- What a command leaves its devices with. The notion is of this project.
---     Tells old new failures later line      a line was written where no write failed, and else a proper beginning of it
 --     LeavesDevices from to telling .. status      what holds of every line: which device failed, what stays as it was, and what is told
 --     Runs from to telling .. status read IsText      what holds of a subcommand that refuses its input or writes such a text for it
 --     RunsEngine from to telling .. status text      what holds of one that writes the text that its input determines
---     RunsSim from to telling .. status replicas      what holds of one that writes the text of a world of so many replicas to which its input leads
+--     RunsSim from to telling .. status schedule      what holds of one that writes the text of a world to which its input leads under a schedule
 --     RunsCluster from to telling .. status replicas      what holds of one that writes the text of a book of so many replicas that a cluster left, which began with what its input says
 --     StopsEarly from to telling .. status      what holds of one whose cluster may close early, or be shared still
 --     Expects from to telling .. status text IsExpected      what holds of one whose input says which answers it expects
@@ -15,16 +14,13 @@ use Rattle.calvin_edge.specs.declared.source.Source as source
 use Rattle.calvin_edge.specs.declared.sink.Sink as sink
 use Rattle.calvin_edge.specs.Answering.{HasAnswer, HasText}
 use Rattle.calvin_edge.specs.Complaints.{complaint}
+use Rattle.calvin_sim_events.specs.declared.schedule.Schedule.{Schedule}
 use Rattle.calvin_sim.specs.declared.engine.Simulated.{Simulated}
 use Rattle.calvin_sim.specs.Engine.{sim_script, IsSimText}
 use Rattle.calvin_run.specs.declared.engine.Ran.{Ran}
 use Rattle.calvin_run.specs.Engine.{IsRunText}
-use Rattle.calvin_command.specs.Statuses.{status_of}
-
-pub record Tells (old new : Option (List ℕ)) (failures later : ℕ) (line : List ℕ) : Type 0 where
-  pub whole : later ≡ failures → Appends old new line
-  pub one_failure : later ≢ failures → later ≡ failures + 1
-  pub beginning : later ≢ failures → (n : ℕ) × (n < length line) × Appends old new (take n line)
+use Rattle.calvin_ending.specs.Statuses.{status_of}
+use Rattle.calvin_ending.specs.Telling.{Tells}
 
 -- what is known of an input, of an output and of a standard error, and each before and after
 module _ {S K E : Type 0} (from : source.Ghosts S) (to : sink.Ghosts K) (telling : sink.Ghosts E) (input input_after : S) (output output_after : K) (error error_after : E) (status : ℕ) where
@@ -68,8 +64,8 @@ module _ {S K E : Type 0} (from : source.Ghosts S) (to : sink.Ghosts K) (telling
   abbrev pub RunsEngine : (List ℕ → Result (List ℕ) Fault) → Type 0
   RunsEngine text = Runs text (λ bytes answer. text bytes ≡ Ok answer)
 
-  abbrev pub RunsSim : ℕ → Type 0
-  RunsSim replicas = Runs sim_script (λ bytes text. (world : Simulated) × IsSimText replicas bytes world text)
+  abbrev pub RunsSim : Schedule → Type 0
+  RunsSim schedule = Runs sim_script (λ bytes text. (world : Simulated) × IsSimText schedule bytes world text)
 
   abbrev pub RunsCluster : ℕ → Type 0
   RunsCluster replicas = Runs sim_script (λ bytes text. (book : Ran) × IsRunText replicas bytes book text)

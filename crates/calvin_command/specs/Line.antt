@@ -1,19 +1,15 @@
 -- Which command lines ask for what. They are of this project; what a line is to `clap` is of its specifications.
---     flag name      a flag of this name
---     number_option name least most default      an option of this name that takes a number in a range, and without it the default
---     scout_flag, restarts_flag      the flag `--scout` of `serial`, and `--restarts` of `sim`
---     start_option, steps_option, replicas_option      the options of `sim`
+--     scout_flag, restarts_flag, repeat_flag      the flag `--scout` of `serial`, and `--restarts` and `--repeat` of `sim`
+--     start_option, steps_option, replicas_option, lose_option      the options of `sim`
 --     workers_option      the option `--workers` of `run`, which has `--replicas` too
 --     serial_app, check_app, sim_app, run_app      the subcommands `serial`, `check`, `sim` and `run`
 --     calvin      the program's command line, as clap sees it
---     IsTaken words      clap takes the words
 --     Names name words      as clap reads them, the words name the subcommand of this name
---     IsSerialLine words, IsCheckLine words, IsSimLine words, IsRunLine words      clap takes the words, and reads that they name the subcommand `serial`;  `check`;  `sim`;  `run`
---     has_flag name rows      the flag of this name is among what clap found
+--     LosesWell replicas rows      by what clap found no replica is lost, or one above 0 of so many
+--     IsTaken words      clap takes the words, and where they name `sim`, they lose no replica, or one above 0 that is there
+--     IsSerialLine words, IsCheckLine words, IsSimLine words, IsRunLine words      the words are taken, and clap reads that they name the subcommand `serial`;  `check`;  `sim`;  `run`
 --     sets_of found      the undeclared sets that are asked for by what clap found of a subcommand
 --     sets_asked words      the undeclared sets that the words ask for, as clap reads them
---     number_in text      the number that a text writes, if it writes one
---     number_of name rows      the number among what clap found for the option of this name
 --     restarts_of rows      whether nodes restart by what clap found
 --     IsScheduleOf rows schedule      what clap found asks for this schedule
 --     IsAsked words schedule      the words ask for this schedule, as clap reads them
@@ -21,11 +17,12 @@
 --     IsTeamAsked words team      the words ask for this team, as clap reads them
 --     IsUsual schedule, IsUsualTeam team      it is the one that is run where nothing else is asked for
 --     IsHelpLine words      clap answers the words with help
---     IsBadLine words      clap refuses the words, and not with help
+--     IsBadLine words      the words aren't taken, and clap doesn't answer them with help
 --     HasHelpWord words      `help` stands among the words after the program's name
 --     IsPlainSerialLine words, IsPlainCheckLine words, IsPlainSimLine words, IsPlainRunLine words      the words are the program's name and `serial`;  and `check`;  and `sim`;  and `run`
 --     IsScoutLine words      the words are the program's name, `serial` and `--scout`
 --     IsOf name wish      the wish is for the subcommand of this name
+--     IsAskedBy rows wish      where the wish is for `sim`, what clap found asks for its schedule
 --     IsFor words wish      where a subcommand is asked for, the words are for it
 --     IsSerial sets wish      the serial run is asked for with these undeclared sets, unless memory ran out
 --     IsCheck wish      the run of a list of events is asked for, unless memory ran out
@@ -33,8 +30,7 @@
 --     IsRun words wish      the run of a script in threads is asked for by a team that the words ask for, unless memory ran out
 --     IsHelp wish      help is asked for, unless memory ran out
 --     IsRefused wish      nothing is asked for
-use Rattle.std.specs.Prelude.{◌≡◌, ◌≢◌, ◌≤◌, ◌&&◌, ◌^◌, ℕ, List, [], ◌∷◌, Option, Some, None, option_map, option_and_then, if◌then◌else◌, nat_lt, Result, Ok, Err, codes, drop, Bool, true, false}
-use Rattle.std.specs.Option.{option_map_or}
+use Rattle.std.specs.Prelude.{◌≡◌, ◌≤◌, ◌<◌, ◌&&◌, ◌-◌, ◌^◌, ℕ, List, [], ◌∷◌, Option, Some, None, IfSome, option_map, option_and_then, if◌then◌else◌, nat_lt, Result, Ok, Err, codes, drop, Bool, true, false}
 use Rattle.std.specs.Str.{bytes_eq}
 use Rattle.std.specs.Str.Parse.{digits_value, without_leading_plus}
 use Rattle.std.specs.List.{Contains}
@@ -43,6 +39,7 @@ use Rattle.clap.specs.Words.{App, Rule, Row, Text, new_app, new_rule, with_rule,
 use Rattle.clap.specs.declared.builder.action.ArgAction.TheVariants.{Set, SetTrue}
 use Rattle.clap.specs.declared.builder.value_parser.ValueParser.TheVariants.{Unsigned}
 use Rattle.clap.specs.declared.error.kind.ErrorKind.TheVariants.{DisplayHelp}
+use Rattle.calvin_options.specs.Options.{flag, number_option, optional_number, has_flag, number_of, rows_found}
 use Rattle.calvin_types.specs.declared.limits.TheConstants.{MOST_REPLICAS}
 use Rattle.calvin_serial.specs.declared.undeclared.UndeclaredSets.{UndeclaredSets}
 use Rattle.calvin_serial.specs.declared.undeclared.UndeclaredSets.TheVariants.{First, Scouted}
@@ -57,18 +54,6 @@ use Rattle.calvin_command.specs.declared.wishes.Wish.TheVariants.{Serial, Check,
 use Rattle.calvin_command.specs.declared.wishes.Refusal.{Refusal}
 use Rattle.calvin_command.specs.declared.wishes.Refusal.TheVariants.{BadLine, OutOfMemory}
 
-abbrev pub flag : Text → Rule
-flag name = record (new_rule name) { long = Some name; action = Some SetTrue }
-
-abbrev pub number_option : Text → ℕ → ℕ → Text → Rule
-number_option name least most default = record (new_rule name) {
-  long = Some name;
-  action = Some Set;
-  parser = Some (Unsigned least most);
-  value_names = 1;
-  defaults = default ∷ [];
-}
-
 abbrev pub scout_flag : Rule
 scout_flag = flag (codes "scout")
 
@@ -80,9 +65,12 @@ serial_app = with_rule (new_app (codes "serial")) scout_flag
 abbrev pub check_app : App
 check_app = new_app (codes "check")
 
--- `sim`, which has a flag and three options
+-- `sim`, which has two flags and four options
 abbrev pub restarts_flag : Rule
 restarts_flag = flag (codes "restarts")
+
+abbrev pub repeat_flag : Rule
+repeat_flag = flag (codes "repeat")
 
 abbrev pub start_option : Rule
 start_option = number_option (codes "start") 0 18446744073709551615 (codes "1")
@@ -93,8 +81,11 @@ steps_option = number_option (codes "steps") 0 MOST_STEPS (codes "1000")
 abbrev pub replicas_option : Rule
 replicas_option = number_option (codes "replicas") 1 MOST_REPLICAS (codes "3")
 
+abbrev pub lose_option : Rule
+lose_option = optional_number (codes "lose") 1 (MOST_REPLICAS - 1)
+
 abbrev pub sim_app : App
-sim_app = with_rule (with_rule (with_rule (with_rule (new_app (codes "sim")) start_option) steps_option) replicas_option) restarts_flag
+sim_app = with_rule (with_rule (with_rule (with_rule (with_rule (with_rule (new_app (codes "sim")) start_option) steps_option) replicas_option) restarts_flag) repeat_flag) lose_option
 
 -- `run`, which has two options
 abbrev pub workers_option : Rule
@@ -109,12 +100,17 @@ calvin = let plain = new_app (codes "calvin") in
     let required = record plain { top = record plain.top { subcommand_required = true } } in
     with_subcommand (with_subcommand (with_subcommand (with_subcommand required serial_app.top) check_app.top) sim_app.top) run_app.top
 
--- clap has no error for the words
-abbrev pub IsTaken : List (List ℕ) → Type 0
-IsTaken words = fault_of calvin words ≡ []
-
 abbrev pub Names : List ℕ → List (List ℕ) → Type 0
 Names name words = option_map (λ s. s.0) (subcommand_of calvin words) ≡ Some name
+
+abbrev pub LosesWell : ℕ → List Row → Type 0
+LosesWell replicas rows = IfSome (number_of (codes "lose") rows) (λ lost. (0 < lost) × (lost < replicas))
+
+-- clap has no error for the words, and of so many replicas as they ask for none is lost, or one above 0
+abbrev pub IsTaken : List (List ℕ) → Type 0
+IsTaken words = (fault_of calvin words ≡ [])
+    × (Names (codes "sim") words → let rows = rows_found (subcommand_of calvin words) in
+    IfSome (number_of (codes "replicas") rows) (λ replicas. LosesWell replicas rows))
 
 abbrev pub IsSerialLine : List (List ℕ) → Type 0
 IsSerialLine words = IsTaken words × Names (codes "serial") words
@@ -128,27 +124,11 @@ IsSimLine words = IsTaken words × Names (codes "sim") words
 abbrev pub IsRunLine : List (List ℕ) → Type 0
 IsRunLine words = IsTaken words × Names (codes "run") words
 
-abbrev pub has_flag : Text → List Row → Bool
-has_flag name rows = option_map_or (λ value. bytes_eq value (codes "true")) (first_of name rows) false
-
--- what clap found of a subcommand
-abbrev pub rows_found : Option (Text × List Row) → List Row
-rows_found found = option_map_or (λ s. s.1) found []
-
 abbrev pub sets_of : Option (Text × List Row) → UndeclaredSets
 sets_of found = if has_flag (codes "scout") (rows_found found) then Scouted else First
 
 abbrev pub sets_asked : List (List ℕ) → UndeclaredSets
 sets_asked words = sets_of (subcommand_of calvin words)
-
--- in decimal digits, after a plus or none, and below 2 ^ 64
-abbrev pub number_in : Text → Option ℕ
-number_in text =
-    let digits = without_leading_plus text in
-    if is_numeral digits && nat_lt (digits_value 10 digits) (2 ^ 64) then Some (digits_value 10 digits) else None
-
-abbrev pub number_of : Text → List Row → Option ℕ
-number_of name rows = option_and_then number_in (first_of name rows)
 
 abbrev pub restarts_of : List Row → Restarts
 restarts_of rows = if has_flag (codes "restarts") rows then AboveReplicaZero else Never
@@ -158,13 +138,17 @@ pub record IsScheduleOf (rows : List Row) (schedule : Schedule) : Type 0 where
   pub steps : number_of (codes "steps") rows ≡ Some schedule.steps
   pub replicas : number_of (codes "replicas") rows ≡ Some schedule.replicas
   pub restarts : schedule.restarts ≡ restarts_of rows
+  pub repeats : schedule.repeats ≡ has_flag (codes "repeat") rows
+  pub lost : schedule.lost ≡ number_of (codes "lose") rows
   pub steps_at_most : schedule.steps ≤ MOST_STEPS
+  pub loses_well : LosesWell schedule.replicas rows
 
 abbrev pub IsAsked : List (List ℕ) → Schedule → Type 0
 IsAsked words schedule = IsScheduleOf (rows_found (subcommand_of calvin words)) schedule
 
 abbrev pub IsUsual : Schedule → Type 0
 IsUsual schedule = (schedule.start ≡ 1) × (schedule.steps ≡ 1000) × (schedule.replicas ≡ 3) × (schedule.restarts ≡ Never)
+    × (schedule.repeats ≡ false) × (schedule.lost ≡ None)
 
 pub record IsTeamOf (rows : List Row) (team : Team) : Type 0 where
   pub replicas : number_of (codes "replicas") rows ≡ Some team.replicas
@@ -180,9 +164,9 @@ IsUsualTeam team = (team.replicas ≡ 3) × (team.workers ≡ 4)
 abbrev pub IsHelpLine : List (List ℕ) → Type 0
 IsHelpLine words = fault_of calvin words ≡ DisplayHelp ∷ []
 
--- clap has an error for the words, and it isn't help
+-- the words aren't taken, and help is no error that clap has for them
 abbrev pub IsBadLine : List (List ℕ) → Type 0
-IsBadLine words = (fault_of calvin words ≢ []) × ¬ IsAmong DisplayHelp (fault_of calvin words)
+IsBadLine words = ¬ IsTaken words × ¬ IsAmong DisplayHelp (fault_of calvin words)
 
 abbrev pub HasHelpWord : List (List ℕ) → Type 0
 HasHelpWord words = Contains (drop 1 words) (codes "help")
@@ -208,6 +192,13 @@ IsOf name Check = name ≡ Some (codes "check")
 IsOf name (Sim schedule) = name ≡ Some (codes "sim")
 IsOf name (Run team) = name ≡ Some (codes "run")
 IsOf name (Help e) = ⊥
+
+abbrev pub IsAskedBy : List Row → Wish → Type 0
+IsAskedBy rows (Serial sets) = Unit {0}
+IsAskedBy rows Check = Unit {0}
+IsAskedBy rows (Sim schedule) = IsScheduleOf rows schedule
+IsAskedBy rows (Run team) = Unit {0}
+IsAskedBy rows (Help e) = Unit {0}
 
 abbrev pub IsFor : List (List ℕ) → Result Wish Refusal → Type 0
 IsFor words (Ok (Serial sets)) = IsSerialLine words

@@ -1,25 +1,24 @@
 //! What a line runs, and how that ends.
 ghost use Rattle.std.specs.Prelude.{◌≡◌, ◌≢◌, ◌+◌, map, codes, ◌⊎◌};
-ghost use Rattle.calvin_edge.specs.Complaints.{complaint};
 ghost use Rattle.calvin_serial.specs.Engine.{serial_text};
 ghost use Rattle.calvin_check.specs.Checks.{check_text, IsExpected};
 ghost use Rattle.calvin_sim_events.specs.declared.schedule.Schedule.{Schedule};
 ghost use Rattle.calvin_run.specs.declared.team.Team.{Team};
-ghost use Rattle.calvin_command.specs.Ends.{Tells, LeavesDevices, RunsEngine, RunsSim, RunsCluster, Expects, StopsEarly};
+ghost use Rattle.calvin_ending.specs.Telling.{Tells};
+ghost use Rattle.calvin_command.specs.Ends.{LeavesDevices, RunsEngine, RunsSim, RunsCluster, Expects, StopsEarly};
 ghost use Rattle.calvin_command.specs.Line.{IsTaken, IsSerialLine, IsCheckLine, IsSimLine, IsRunLine, IsHelpLine, IsBadLine, HasHelpWord, IsPlainSerialLine, IsPlainCheckLine, IsPlainSimLine, IsPlainRunLine, IsScoutLine, sets_asked, IsAsked, IsTeamAsked, IsUsual, IsUsualTeam};
-ghost use Rattle.calvin_command.specs.Statuses.{IsStatus};
+ghost use Rattle.calvin_ending.specs.Statuses.{IsStatus};
 
-use crate::ending::{end_with, refuse_line};
 use crate::wishes::{Refusal, Wish, parse};
 use calvin_check::check;
 use calvin_cluster::Open;
-use calvin_edge::{Sink, Source, write_all};
+use calvin_edge::{Sink, Source};
+use calvin_ending::{end_with, print_help, refuse_line};
 use calvin_run::{Team, run};
 use calvin_serial::{UndeclaredSets, serial};
 use calvin_sim::sim;
 use calvin_sim_events::Schedule;
 use calvin_types::Fault;
-use clap::Error;
 use std::alloc::Global;
 use std::convert::AsStr;
 use std::sync::Wait;
@@ -75,7 +74,7 @@ fn run_sim<S: Source, K: Sink, E: Sink>(
 ) -> u8
     ensures statuses { IsStatus result }
     ensures devices { LeavesDevices S.Source K.Sink E.Sink input.old input.new output.old output.new error.old error.new result }
-    ensures sim { RunsSim S.Source K.Sink E.Sink input.old input.new output.old output.new error.old error.new result schedule.now.replicas }
+    ensures sim { RunsSim S.Source K.Sink E.Sink input.old input.new output.old output.new error.old error.new result schedule.now }
     ensures expected { result ≢ 3 }
 {
     if let Err(fault) = sim(alloc, schedule, input, output) {
@@ -166,9 +165,9 @@ where
     ensures expects { IsCheckLine (map W.text words.now)
         → Expects S.Source K.Sink E.Sink input.old input.new output.old output.new error.old error.new result check_text IsExpected }
     ensures unexpected { result ≡ 3 → IsCheckLine (map W.text words.now) ⊎ IsRunLine (map W.text words.now) }
-    // `sim` has a schedule that is asked for, and writes the text of a world to which the script led, or refuses it.
+    // `sim` has a schedule that is asked for, and writes the text of a world to which the script led under it, or refuses it.
     ensures sim { IsSimLine (map W.text words.now) → (schedule : Schedule) × IsAsked (map W.text words.now) schedule
-        × RunsSim S.Source K.Sink E.Sink input.old input.new output.old output.new error.old error.new result schedule.replicas }
+        × RunsSim S.Source K.Sink E.Sink input.old input.new output.old output.new error.old error.new result schedule }
     // `run` has a team that is asked for, and writes the text of a book that a cluster of it left, or refuses the script; 3 says that
     // the cluster closed early or is still shared.
     ensures run { IsRunLine (map W.text words.now) → (team : Team) × IsTeamAsked (map W.text words.now) team
@@ -184,24 +183,5 @@ where
         Ok(Wish::Help(help)) => print_help(alloc, &help, output, error),
         Err(Refusal::BadLine) => refuse_line(error),
         Err(Refusal::OutOfMemory) => end_with(Fault::OutOfMemory, error),
-    }
-}
-
-/// Writes clap's help, and answers the status.
-fn print_help<K: Sink, E: Sink>(alloc: Global, help: &Error, output: &mut K, error: &mut E) -> u8
-    ensures statuses { (result ≡ 0) ⊎ (result ≡ 4) ⊎ (result ≡ 5) }
-    ensures silent { result ≡ 0 → error.new ≡ error.old }
-    ensures failed { result ≡ 5 → K.failures output.new ≡ K.failures output.old + 1 }
-    ensures wrote_well { result ≢ 5 → K.failures output.new ≡ K.failures output.old }
-    ensures untouched { result ≡ 4 → output.new ≡ output.old }
-    ensures told_memory { result ≡ 4 → Tells (E.taken error.old) (E.taken error.new) (E.failures error.old) (E.failures error.new) (complaint Fault.OutOfMemory) }
-    ensures told_writing { result ≡ 5 → Tells (E.taken error.old) (E.taken error.new) (E.failures error.old) (E.failures error.new) (complaint Fault.WriteFailed) }
-{
-    match help.to_string(alloc) {
-        Ok(text) => match write_all(output, text.as_bytes()) {
-            Ok(()) => 0,
-            Err(_) => end_with(Fault::WriteFailed, error),
-        },
-        Err(_) => end_with(Fault::OutOfMemory, error),
     }
 }

@@ -58,11 +58,14 @@ a world of as many partitions as it has: each batch is submitted at its group's 
 of replica 0 and closed, then events are drawn from the number --start, with
 --restarts also restarts, points with snapshots of them, and coolings, and then
 packets are delivered and nodes work on, for 64 rounds at most, until each stands at
-the end of the last epoch. The same script, options and program give the same run.
+the end of the last epoch. With --repeat each round delivers all packets again that
+were there when it began. With --lose no packet is ever delivered that a node of this
+replica sent, and nothing waits for its nodes. The same script, options and program
+give the same run.
 
-Each request of the epochs that all nodes finished is answered by a line `epoch.n
-client:number answer`, in the merged order of all groups; the last line is
-`finished` and the last of these epochs, or none.
+Each request of the epochs that all nodes finished, those of the lost replica aside,
+is answered by a line `epoch.n client:number answer`, in the merged order of all
+groups; the last line is `finished` and the last of these epochs, or none.
 
 A group has at most 4,096 requests in the whole script; one with more is refused.
 
@@ -96,4 +99,7 @@ Statuses:
 At 2 to 5 standard error has one line that says why.
 
 `calvin serial --help` and `calvin check --help` show the forms of scripts, and
-`calvin sim --help` and `calvin run --help` their options.";
+`calvin sim --help` and `calvin run --help` their options.
+
+`calvin serve` has a command line of its own: it keeps requests in a journal as they
+come on standard input, and answers each. `calvin serve --help` shows it.";

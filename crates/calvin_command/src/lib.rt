@@ -2,10 +2,8 @@
 #![tactic(auto)]
 
 mod dispatch;
-mod ending;
 mod help;
 mod lines;
 mod wishes;
 
 pub use dispatch::command;
-pub use ending::refuse_words;

@@ -2,42 +2,15 @@
 ghost use Rattle.std.specs.Prelude.{◌≡◌, codes, false, IfOk};
 ghost use Rattle.clap.specs.declared.builder.command.Command.TheViews.{out-Command as fields_of};
 ghost use Rattle.clap.specs.Words.{app_of, rule_of};
-ghost use Rattle.calvin_command.specs.Line.{flag, number_option, scout_flag, restarts_flag, start_option, steps_option, replicas_option, workers_option, serial_app, check_app, sim_app, run_app, calvin};
+ghost use Rattle.calvin_command.specs.Line.{scout_flag, restarts_flag, repeat_flag, start_option, steps_option, replicas_option, lose_option, workers_option, serial_app, check_app, sim_app, run_app, calvin};
 
 use crate::help::{EVENTS_HELP, RUN_HELP, SCRIPT_HELP, SIM_HELP, STATUS_HELP};
 use calvin_cluster::MOST_WORKERS;
+use calvin_options::{flag, number_option, optional_number};
 use calvin_sim_events::MOST_STEPS;
 use calvin_types::MOST_REPLICAS;
-use clap::builder::ValueParser;
-use clap::{Arg, ArgAction, Command};
+use clap::{Arg, Command};
 use std::alloc::{AllocError, Global};
-
-/// A flag.
-fn flag<'a>(alloc: Global, name: &'a str) -> Arg<'a>
-    ensures rule { rule_of result ≡ flag name.now }
-    ensures local { result.global ≡ false }
-{
-    Arg::new(alloc, name).long(name).action(ArgAction::SetTrue)
-}
-
-/// An option that takes a number from the least to the most, and has the default where it isn't given.
-fn number_option<'a>(
-    alloc: Global,
-    name: &'a str,
-    least: u64,
-    most: u64,
-    default: &'a str,
-) -> Arg<'a>
-    ensures rule { rule_of result ≡ number_option name.now least most default.now }
-    ensures local { result.global ≡ false }
-{
-    Arg::new(alloc, name)
-        .long(name)
-        .action(ArgAction::Set)
-        .value_parser(ValueParser::unsigned(least, most))
-        .value_name("N")
-        .default_value(default)
-}
 
 /// The flag `--scout` of `serial`.
 fn scout_flag<'a>(alloc: Global) -> Arg<'a>
@@ -54,6 +27,16 @@ fn restarts_flag<'a>(alloc: Global) -> Arg<'a>
 {
     flag(alloc, "restarts").help(
         "Nodes of the replicas above 0 restart, points are opened, and rows cool, now and then",
+    )
+}
+
+/// The flag `--repeat` of `sim`.
+fn repeat_flag<'a>(alloc: Global) -> Arg<'a>
+    ensures rule { rule_of result ≡ repeat_flag }
+    ensures local { result.global ≡ false }
+{
+    flag(alloc, "repeat").help(
+        "Each packet that is there at the beginning of a round is delivered again in it",
     )
 }
 
@@ -82,6 +65,16 @@ fn replicas_option<'a>(alloc: Global) -> Arg<'a>
 {
     number_option(alloc, "replicas", 1, u64::from(MOST_REPLICAS), "3").help(
         "How many replicas there are, 1 to 7",
+    )
+}
+
+/// The option `--lose` of `sim`.
+fn lose_option<'a>(alloc: Global) -> Arg<'a>
+    ensures rule { rule_of result ≡ lose_option }
+    ensures local { result.global ≡ false }
+{
+    optional_number(alloc, "lose", 1, u64::from(MOST_REPLICAS) - 1).help(
+        "Of which replica all packets are lost, 1 to one less than there are replicas",
     )
 }
 
@@ -127,7 +120,9 @@ fn sim_line<'a>(alloc: Global) -> Result<Command<'a>, AllocError>
         .arg(start_option(alloc))?
         .arg(steps_option(alloc))?
         .arg(replicas_option(alloc))?
-        .arg(restarts_flag(alloc))
+        .arg(restarts_flag(alloc))?
+        .arg(repeat_flag(alloc))?
+        .arg(lose_option(alloc))
 }
 
 /// The subcommand `run`.

@@ -1,12 +1,14 @@
 //! What a line asks for.
-ghost use Rattle.std.specs.Prelude.{◌≡◌, map, codes, IfSome, IsSome, Some};
+ghost use Rattle.std.specs.Prelude.{◌≡◌, map, codes, IfSome, IsSome, Some, None};
 ghost use Rattle.clap.specs.Words.{found_of, rows_of, subcommand_name_of, subcommand_rows_of};
 ghost use Rattle.calvin_sim_events.specs.declared.schedule.Schedule.{Schedule};
 ghost use Rattle.calvin_run.specs.declared.team.Team.{Team};
-ghost use Rattle.calvin_command.specs.Line.{IsSerialLine, IsCheckLine, IsSimLine, IsRunLine, IsHelpLine, IsBadLine, has_flag, rows_found, sets_of, sets_asked, number_of, IsScheduleOf, IsTeamOf, IsOf, IsFor, IsSerial, IsCheck, IsSim, IsRun, IsHelp, IsRefused};
+ghost use Rattle.calvin_options.specs.Options.{number_of, rows_found};
+ghost use Rattle.calvin_command.specs.Line.{IsSerialLine, IsCheckLine, IsSimLine, IsRunLine, IsHelpLine, IsBadLine, sets_of, sets_asked, LosesWell, IsScheduleOf, IsTeamOf, IsOf, IsAskedBy, IsFor, IsSerial, IsCheck, IsSim, IsRun, IsHelp, IsRefused};
 ghost use Rattle.calvin_command.specs.declared.wishes.Wish.TheVariants.{Serial, Check, Sim, Run};
 
 use crate::lines::line;
+use calvin_options::{has_flag, number_of};
 use calvin_run::Team;
 use calvin_serial::UndeclaredSets;
 use calvin_sim_events::{Restarts, Schedule};
@@ -35,21 +37,18 @@ pub(crate) enum Refusal {
     OutOfMemory,
 }
 
-/// Whether a flag was found. Its value is read as text, of which clap's clauses say exactly what it is.
-fn has_flag(found: &ArgMatches<'_>, name: &str) -> bool
-    ensures { result ≡ has_flag name.now (rows_of (found_of found.now)) }
+/// The schedule, but the packets of the replica are lost that was found for `--lose`, if one was: none where that is the replica
+/// 0 or isn't there.
+fn losing(schedule: Schedule, sim: &ArgMatches<'_>) -> Option<Schedule>
+    requires whole { schedule.lost ≡ None }
+    ensures ok { IfSome result (λ s. s ≡ record schedule { lost = number_of (codes "lose") (rows_of (found_of sim.now)) }) }
+    ensures well { IfSome result (λ s. LosesWell schedule.replicas (rows_of (found_of sim.now))) }
+    ensures some { LosesWell schedule.replicas (rows_of (found_of sim.now)) → IsSome result }
 {
-    match found.get_str(name) {
-        Some(value) => value == "true",
-        None => false,
+    match number_of(sim, "lose") {
+        Some(lost) => schedule.losing(u8::try_from(lost).ok()?),
+        None => Some(schedule),
     }
-}
-
-/// The number that was found for an option.
-fn number_of(found: &ArgMatches<'_>, name: &str) -> Option<u64>
-    ensures { result ≡ number_of name.now (rows_of (found_of found.now)) }
-{
-    found.get_str(name)?.parse::<u64>().ok()
 }
 
 /// The schedule that what was found of `sim` asks for.
@@ -65,7 +64,11 @@ fn schedule_of(sim: &ArgMatches<'_>) -> Option<Schedule>
     } else {
         Restarts::Never
     };
-    Schedule::new(start, steps, replicas, restarts)
+    let schedule = Schedule::new(start, steps, replicas, restarts)?;
+    if has_flag(sim, "repeat") {
+        return losing(schedule.with_repeats(), sim);
+    }
+    losing(schedule, sim)
 }
 
 /// The team that what was found of `run` asks for.
@@ -87,6 +90,7 @@ fn wish_of(matches: &ArgMatches<'_>) -> Option<Wish>
     ensures run { subcommand_name_of matches.now ≡ Some (codes "run") → (asked : Team) → IsTeamOf (rows_found (subcommand_rows_of matches.now)) asked
         → (team : Team) × (result ≡ Some (Run team)) × IsTeamOf (rows_found (subcommand_rows_of matches.now)) team }
     ensures only { IfSome result (IsOf (subcommand_name_of matches.now)) }
+    ensures asked { IfSome result (IsAskedBy (rows_found (subcommand_rows_of matches.now))) }
 {
     if let Some(serial) = matches.subcommand_matches("serial") {
         if has_flag(serial, "scout") {

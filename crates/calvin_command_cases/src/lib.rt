@@ -24,4 +24,6 @@ mod sim;
 #[cfg(test)]
 mod snapshots;
 #[cfg(test)]
+mod tables;
+#[cfg(test)]
 mod woven;

@@ -197,7 +197,14 @@ fn help_is_shown(rt: HostRuntime) {
     let parts = ["partitions", "finished", "--scout", "calvin --help"];
     helps(&rt, alloc, &["calvin", "serial", "--help"], &parts);
     helps(&rt, alloc, &["calvin", "help", "serial"], &parts);
-    let parts = ["--start <N>", "[default: 1000]", "--restarts", "4,096"];
+    let parts = [
+        "--start <N>",
+        "[default: 1000]",
+        "--restarts",
+        "--repeat ",
+        "--lose <N>",
+        "4,096",
+    ];
     helps(&rt, alloc, &["calvin", "sim", "--help"], &parts);
     let parts = [
         "--replicas <N>",

@@ -84,12 +84,28 @@ fn sim_with_restarts(rt: HostRuntime) {
 }
 
 #[test]
+fn repeats_and_losses(rt: HostRuntime) {
+    let lines: [&[&str]; 3] = [
+        &["calvin", "sim", "--repeat"],
+        &["calvin", "sim", "--lose", "2"],
+        &["calvin", "sim", "--restarts", "--repeat"],
+    ];
+    for words in lines {
+        runs(&rt, rt.alloc(), words, MOVE, 0, MOVE_TEXT, "");
+    }
+    let words = ["calvin", "sim", "--replicas", "2", "--lose", "1"];
+    runs(&rt, rt.alloc(), &words, MOVE, 0, "finished none\n", "");
+}
+
+#[test]
 fn lines_at_the_bounds(rt: HostRuntime) {
-    let lines: [&[&str]; 4] = [
+    let lines: [&[&str]; 6] = [
         &["calvin", "sim", "--replicas", "1", "--steps", "0"],
         &["calvin", "sim", "--replicas=7", "--steps=100000"],
         &["calvin", "sim", "--start", "0"],
         &["calvin", "sim", "--start=+18446744073709551615"],
+        &["calvin", "sim", "--lose=+1"],
+        &["calvin", "sim", "--lose", "6", "--replicas", "7"],
     ];
     for words in lines {
         runs(&rt, rt.alloc(), words, MOVE, 0, MOVE_TEXT, "");
@@ -98,7 +114,7 @@ fn lines_at_the_bounds(rt: HostRuntime) {
 
 #[test]
 fn bad_lines(rt: HostRuntime) {
-    let lines: [&[&str]; 12] = [
+    let lines: [&[&str]; 20] = [
         &["calvin", "sim", "--replicas", "8"],
         &["calvin", "sim", "--replicas", "0"],
         &["calvin", "sim", "--steps", "100001"],
@@ -110,6 +126,14 @@ fn bad_lines(rt: HostRuntime) {
         &["calvin", "sim", "--start"],
         &["calvin", "sim", "--start="],
         &["calvin", "sim", "--scout"],
+        &["calvin", "sim", "--repeat", "--repeat"],
+        &["calvin", "sim", "--repeat=1"],
+        &["calvin", "sim", "--lose", "0"],
+        &["calvin", "sim", "--lose", "3"],
+        &["calvin", "sim", "--lose", "2", "--replicas", "2"],
+        &["calvin", "sim", "--replicas", "1", "--lose", "1"],
+        &["calvin", "sim", "--replicas", "7", "--lose", "7"],
+        &["calvin", "sim", "--lose", "x"],
         &["calvin", "sim", "script.json"],
     ];
     for words in lines {

@@ -5,7 +5,7 @@ use mathlib.Core.List.{IsPrefix}
 use Rattle.calvin_journal_log.specs.Disks.{Disk, IsInOrder, Leads, Synced}
 use Rattle.calvin_journal.specs.Lines.{has_break, lines_of, text}
 use Rattle.calvin_journal.specs.Journals.{synced, MayBecome, Becomes, AddedAll, AddedInPart, ClosedInPart, OpensInPart}
-use Rattle.calvin_journal.specs.Readings.{IsRead, Hands, part_at, lines_at}
+use Rattle.calvin_journal.specs.Readings.{IsRead, BeginsWith, Hands, HandsOut, part_at, lines_at}
 use Rattle.calvin_journal.proofs.Splits.{AreLines, prefix_same, text_begins, lines_of-line, lines_of-none, lines_of-text, lines_of-text_alone, lines_of-prefix, lines_of-are, are-append, text-append, prefix_trans}
 
 -- ---- after each crash
@@ -142,8 +142,7 @@ module _ {E : Type 0} (line : List ℕ) (done done' : ℕ) where
 
   pub handed_line : (told : Option Disk) (r : Result Bool E) → IfSome told (IsWhole done)
       → IfOk r (λ more. more ≡ true → IfSome told (λ disk. Hands line (part_at done disk) (part_at done' disk))) → IfOk r (λ more. more ≡ true → has_break line ≡ false)
-      → IfOk r (λ more. more ≡ true → IfSome (option_map (λ d. lines_at (part_at done d)) told) (λ old. IfSome (option_map (λ d. lines_at (part_at done' d)) told) (λ new.
-      (old.ahead ≡ line ∷ new.ahead) × (new.done ≡ old.done ++ line ∷ []))))
+      → IfOk r (λ more. more ≡ true → HandsOut line (option_map (λ d. lines_at (part_at done d)) told) (option_map (λ d. lines_at (part_at done' d)) told))
   handed_line None (Ok more) whole handed free = λ is. tt
   handed_line told (Err e) whole handed free = tt
   handed_line (Some disk) (Ok more) whole handed free = λ is. (next_ahead line (free is) done done' disk whole (handed is), next_done line (free is) done done' disk whole (handed is))
@@ -153,3 +152,11 @@ module _ {E : Type 0} (line : List ℕ) (done done' : ℕ) where
   no_line_ahead None (Ok more) rest all free = λ is. tt
   no_line_ahead told (Err e) rest all free = tt
   no_line_ahead (Some disk) (Ok more) rest all free = λ is. ap lines_of (sym (all is)) ∙ lines_of-none rest (free is)
+
+-- a line is ahead, and stays there
+pub peeked_line : {E : Type 0} (line : List ℕ) (done : ℕ) (told : Option Disk) (r : Result Bool E) → IfOk r (λ more. more ≡ true → IfSome told (λ disk. BeginsWith line (drop done disk.seen)))
+    → IfOk r (λ more. more ≡ true → has_break line ≡ false)
+    → IfOk r (λ more. more ≡ true → IfSome (option_map (λ d. lines_at (part_at done d)) told) (λ lines. (rest : List (List ℕ)) × (lines.ahead ≡ line ∷ rest)))
+peeked_line line done None (Ok more) begins free = λ is. tt
+peeked_line line done told (Err e) begins free = tt
+peeked_line line done (Some disk) (Ok more) begins free = λ is. (lines_of (begins is).0, ap lines_of (begins is).1 ∙ lines_of-line line (begins is).0 (free is))

@@ -13,7 +13,7 @@ use Rattle.calvin_journal.specs.Journals.{synced, epochs_in, epochs_behind, Adde
 use Rattle.calvin_journal.specs.Readings.{IsStill, Hands, part_at, lines_at, Opens}
 use Rattle.calvin_journal.proofs.Splits.{lines_of-line, lines_of-none, text_again}
 
-some_same : {A : Type 0} {x y : A} → Some x ≡ Some y → x ≡ y
+pub some_same : {A : Type 0} {x y : A} → Some x ≡ Some y → x ≡ y
 some_same {A} {x} e = ap (λ (o : Option A). unwrap_or o x) e
 
 -- ---- a log with a first whole line

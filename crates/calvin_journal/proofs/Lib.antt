@@ -3,3 +3,4 @@ mod Options
 pub mod Reading
 mod Headings
 mod Additions
+mod Beginnings

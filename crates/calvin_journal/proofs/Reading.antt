@@ -6,7 +6,7 @@ use Rattle.std.proofs.lemmas.Bool.Decides.{nat_tests}
 use Rattle.std.specs.Option.{ForSome}
 use Rattle.calvin_journal_log.specs.Disks.{Disk}
 use Rattle.calvin_journal.specs.Lines.{has_break}
-use Rattle.calvin_journal.specs.Readings.{IsRead, Hands, part_at}
+use Rattle.calvin_journal.specs.Readings.{IsRead, BeginsWith, Hands, part_at}
 use Rattle.calvin_journal.proofs.Options.{if_some}
 
 -- ---- line feeds
@@ -72,28 +72,28 @@ module _ (done : ℕ) (found block seen : List ℕ) (n : ℕ) (front : take (len
 
 -- ---- the same of what a log tells
 
-module _ (told : Option Disk) (done start at : ℕ) (read bytes : List ℕ) (is : bytes ≡ drop start read) (high : at < length bytes) (ten : (slice_index bytes at == 10) ≡ true) where
-  behind_line : drop (start + (at + 1)) read ≡ drop (at + 1) bytes
-  behind_line = sym (drop-drop (at + 1) start read) ∙ ap (drop (at + 1)) (sym is)
+-- what was read begins with a whole line
+module _ (done start size : ℕ) (read line : List ℕ) (begins : BeginsWith line (drop start read)) (is : size ≡ length line + 1) where
+  behind_line : drop (start + size) read ≡ begins.0
+  behind_line = sym (drop-drop size start read) ∙ ap (drop size) begins.1 ∙ ap (λ k. drop k (line ++ 10 ∷ begins.0)) is ∙ drop-append-add line (10 ∷ begins.0) 1
 
-  pub line_is : drop start read ≡ take at bytes ++ 10 ∷ drop (start + (at + 1)) read
-  line_is = sym is ∙ cut_at bytes at high ten ∙ ap (λ w. take at bytes ++ 10 ∷ w) (sym behind_line)
+  pub line_fits : start + size ≤ length read
+  line_fits = let long = ap length begins.1 ∙ length-append line (10 ∷ begins.0) in omega (arith, is, long, length-drop start read)
 
-  line_long : length (take at bytes) ≡ at
-  line_long = length-take-le at bytes (omega (arith, high))
-
-  pub line_fits : start + (at + 1) ≤ length read
-  line_fits = let long = ap length is in omega (arith, high, long, length-drop start read)
-
-  pub line_read : ForSome told (IsRead done (drop start read)) → ForSome told (IsRead (done + (at + 1)) (drop (start + (at + 1)) read))
-  line_read held = λ disk e.
+  pub line_read : (told : Option Disk) → ForSome told (IsRead done (drop start read)) → ForSome told (IsRead (done + size) (drop (start + size) read))
+  line_read told held = λ disk e.
       let h = held disk e in
-      let line = take at bytes in
-      let rest = drop (start + (at + 1)) read in (
+      subst (λ w. IsRead (done + size) w disk) (sym behind_line) (
         h.0,
-        subst (λ n. done + (n + 1) ≤ length disk.seen) line_long (handed_within done (drop start read) line rest disk.seen h.2 line_is h.1),
-        subst (λ n. take (length rest) (drop (done + (n + 1)) disk.seen) ≡ rest) line_long (still_read done (drop start read) line rest disk.seen h.2 line_is),
+        subst (λ n. done + n ≤ length disk.seen) (sym is) (handed_within done (drop start read) line begins.0 disk.seen h.2 begins.1 h.1),
+        subst (λ n. take (length begins.0) (drop (done + n) disk.seen) ≡ begins.0) (sym is) (still_read done (drop start read) line begins.0 disk.seen h.2 begins.1),
       )
+
+-- so does what stands ahead
+pub line_ahead : (told : Option Disk) (done : ℕ) (found line : List ℕ) → ForSome told (IsRead done found) → BeginsWith line found → IfSome told (λ disk. BeginsWith line (drop done disk.seen))
+line_ahead None done found line held begins = tt
+line_ahead (Some disk) done found line held begins =
+    (begins.0 ++ drop (length found) (drop done disk.seen), whole done found line begins.0 disk.seen (held disk refl).2 begins.1)
 
 -- the line was handed out
 pub line_handed : (told : Option Disk) (done : ℕ) (found line rest : List ℕ) → ForSome told (IsRead done found) → found ≡ line ++ 10 ∷ rest

@@ -1,6 +1,7 @@
 -- Journals: a first line, the heading, and then a line an epoch. The form is of this project.
 --     epochs_in heading bytes      the lines of the epochs in a file that may be left of a journal with this heading, where it may
 --     synced bytes      every crash leaves these bytes, and nothing else
+--     IsGathered bytes disk      what stands there and these bytes behind it are whole lines, and nothing was cut off since the last sync
 --     MayBecome answered taken disk      after each crash the whole lines are all that were answered, and nothing but those that were taken, in order
 --     Becomes bounds told      the same of a log that tells its bytes, and goes on telling them
 --     AddedAll, AddedInPart bytes old new      the bytes were added and are synced; or nothing that was kept is lost, and no more than these came to be there
@@ -9,8 +10,8 @@
 use Rattle.std.specs.Prelude.{◌≡◌, ℕ, List, [], ◌∷◌, ◌++◌, Option, Some, None, if◌then◌else◌, bytes_eq, ◌⊎◌, take, nat_eq}
 use Rattle.std.specs.List.{starts_with}
 use mathlib.Core.List.{IsPrefix}
-use Rattle.calvin_journal_log.specs.Disks.{Disk, MayLeave}
-use Rattle.calvin_journal.specs.Lines.{lines_of}
+use Rattle.calvin_journal_log.specs.Disks.{Disk, MayLeave, IsSettled}
+use Rattle.calvin_journal.specs.Lines.{lines_of, text}
 
 abbrev pub epochs_behind : List ℕ → List ℕ → List (List ℕ) → Option (List (List ℕ))
 epochs_behind heading bytes [] = if starts_with nat_eq heading bytes then Some [] else None
@@ -22,6 +23,9 @@ epochs_in heading bytes = epochs_behind heading bytes (lines_of bytes)
 
 abbrev pub synced : List ℕ → Disk
 synced bytes = record { kept = bytes; seen = bytes; most = bytes }
+
+abbrev pub IsGathered : List ℕ → Disk → Type 0
+IsGathered bytes disk = IsSettled disk × (disk.seen ++ bytes ≡ text (lines_of (disk.seen ++ bytes)))
 
 abbrev pub MayBecome : List (List ℕ) → List (List ℕ) → Disk → Type 0
 MayBecome answered taken disk = (left : List ℕ) → MayLeave disk left → IsPrefix answered (lines_of left) × IsPrefix (lines_of left) taken

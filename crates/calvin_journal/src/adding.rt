@@ -25,7 +25,15 @@ pub(crate) fn with_feed(alloc: Global, line: &[u8]) -> Result<Vec<u8>, AllocErro
     ensures { IfOk result (λ text. text.items ≡ line.now ++ 10 ∷ []) }
 {
     let mut text = Vec::with_capacity(alloc, line.len() + 1)?;
+    put_line(&mut text, line)?;
+    Ok(text)
+}
+
+/// Adds a line with its line feed to a text.
+pub(crate) fn put_line(text: &mut Vec<u8>, line: &[u8]) -> Result<(), AllocError>
+    ensures { OnOk result (text.new.items ≡ text.old.items ++ (line.now ++ 10 ∷ [])) }
+{
     text.extend_from_slice(line)?;
     text.push(b'\n')?;
-    Ok(text)
+    Ok(())
 }

@@ -1,13 +1,14 @@
 //! A journal that stands open.
 ghost use Rattle.std.specs.Prelude.{◌≡◌, ◌+◌, ◌∷◌, ◌++◌, [], false, IfOk, IfErr, option_map, ◌⊎◌};
 ghost use Rattle.std.specs.Option.{ForSome};
-ghost use Rattle.calvin_journal_log.specs.declared.fault.JournalFault.TheVariants.{OutOfMemory, JournalFailed};
+ghost use Rattle.calvin_types.specs.declared.fault.Fault.TheVariants.{OutOfMemory, JournalFailed};
 ghost use Rattle.calvin_journal.specs.Lines.{has_break, lines_of, text};
 ghost use Rattle.calvin_journal.specs.Journals.{synced, Becomes};
 
 use crate::adding::{add_synced, with_feed};
 use crate::refused::Refused;
-use calvin_journal_log::{JournalFault, Log};
+use calvin_journal_log::Log;
+use calvin_types::Fault;
 use std::alloc::Global;
 use std::marker::Model;
 
@@ -55,16 +56,24 @@ impl<L: Log + Drop> Journal<L> {
     {
         let mut log = self.log;
         let Ok(text) = with_feed(alloc, line) else {
-            let fault = JournalFault::OutOfMemory;
+            let fault = Fault::OutOfMemory;
             return Err(Refused { fault, log });
         };
         match add_synced(&mut log, &text) {
             Ok(()) => Ok(Journal { log }),
             Err(failed) => {
-                let fault = JournalFault::from(failed);
+                let fault = Fault::from(failed);
                 Err(Refused { fault, log })
             }
         }
+    }
+
+    /// The log, where it stands.
+    pub fn log(&self) -> &L
+        ensures told { L.told result.now ≡ option_map (λ ls. synced (text ls)) self.now.lines }
+        ensures failures { L.failures result.now ≡ self.now.failures }
+    {
+        &self.log
     }
 
     /// The log. Whatever crashes, its file has these lines and nothing else.

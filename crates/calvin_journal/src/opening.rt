@@ -1,17 +1,18 @@
 //! A journal that is read from what a crash left.
-ghost use Rattle.std.specs.Prelude.{◌≡◌, ◌+◌, ◌≤◌, ◌∷◌, ◌++◌, [], true, false, length, drop, None, IfOk, IfErr, OnOk, OnErr, IfSome, option_map, ◌⊎◌};
+ghost use Rattle.std.specs.Prelude.{◌≡◌, ◌+◌, ◌≤◌, ◌∷◌, ◌++◌, [], ℕ, List, true, false, length, drop, None, IfOk, IfErr, OnOk, OnErr, IfSome, option_map, ◌⊎◌};
 ghost use Rattle.std.specs.Option.{ForSome};
 ghost use Rattle.calvin_journal_log.specs.Disks.{Leads, Synced, SyncedInPart};
-ghost use Rattle.calvin_journal_log.specs.declared.fault.JournalFault.TheVariants.{OutOfMemory, NotAJournal, JournalFailed};
+ghost use Rattle.calvin_types.specs.declared.fault.Fault.TheVariants.{OutOfMemory, NotAJournal, JournalFailed};
 ghost use Rattle.calvin_journal.specs.Lines.{has_break};
 ghost use Rattle.calvin_journal.specs.Journals.{synced, epochs_in, Becomes, ClosedAt, ClosedInPart, OpensInPart};
-ghost use Rattle.calvin_journal.specs.Readings.{Opens, Hands, part_at};
+ghost use Rattle.calvin_journal.specs.Readings.{Opens, Hands, HandsOut, part_at};
 
 use crate::adding::{add_synced, with_feed};
 use crate::journal::Journal;
 use crate::reader::Reader;
 use crate::refused::Refused;
-use calvin_journal_log::{JournalFault, Log, LogFailed};
+use calvin_journal_log::{Log, LogFailed};
+use calvin_types::Fault;
 use std::alloc::Global;
 use std::marker::Model;
 
@@ -43,6 +44,7 @@ impl<L: Log + Drop> Opening<L> {
     pub fn begin(alloc: Global, log: L, heading: &[u8]) -> Result<Opening<L>, Refused<L>>
         requires one_line { has_break heading.now ≡ false }
         ensures ok { IfOk result (λ o. IfSome (L.told log) (λ disk. Opens heading.now disk.seen o.lines)) }
+        ensures untold { IfOk result (λ o. L.told log ≡ None → o.lines ≡ None) }
         ensures no_failure { IfOk result (λ o. o.failures ≡ L.failures log) }
         ensures no_journal { IfErr result (λ r. r.fault ≡ NotAJournal → IfSome (L.told log) (λ disk. epochs_in heading.now disk.seen ≡ None)) }
         ensures as_it_was { IfErr result (λ r. r.fault ≡ NotAJournal → L.told r.log ≡ option_map (λ disk. synced disk.seen) (L.told log)) }
@@ -65,9 +67,8 @@ impl<L: Log + Drop> Opening<L> {
 
     /// Puts the next line in place of what `line` has, without its line feed, and says whether there was one. A line that isn't
     /// whole is none.
-    pub fn next_line(&mut self, alloc: Global, line: &mut Vec<u8>) -> Result<bool, JournalFault>
-        ensures line { IfOk result (λ more. more ≡ true → IfSome self.old.lines (λ old. IfSome self.new.lines (λ new.
-            (old.ahead ≡ line.new.items ∷ new.ahead) × (new.done ≡ old.done ++ line.new.items ∷ [])))) }
+    pub fn next_line(&mut self, alloc: Global, line: &mut Vec<u8>) -> Result<bool, Fault>
+        ensures line { IfOk result (λ more. more ≡ true → HandsOut line.new.items self.old.lines self.new.lines) }
         ensures one_line { IfOk result (λ more. more ≡ true → has_break line.new.items ≡ false) }
         ensures end { IfOk result (λ more. more ≡ false → IfSome self.old.lines (λ old. old.ahead ≡ [])) }
         ensures stays { IfOk result (λ more. more ≡ false → self.new.lines ≡ self.old.lines) }
@@ -78,6 +79,21 @@ impl<L: Log + Drop> Opening<L> {
         ensures no_failure { OnOk result (self.new.failures ≡ self.old.failures) }
     {
         self.reader.next_line(alloc, line)
+    }
+
+    /// Puts the line that comes next in place of what `line` has, as `next_line` does, and doesn't hand it out: whoever asks
+    /// again has it again.
+    pub fn peek_line(&mut self, alloc: Global, line: &mut Vec<u8>) -> Result<bool, Fault>
+        ensures line { IfOk result (λ more. more ≡ true → IfSome self.old.lines (λ lines. (rest : List (List ℕ)) × (lines.ahead ≡ line.new.items ∷ rest))) }
+        ensures one_line { IfOk result (λ more. more ≡ true → has_break line.new.items ≡ false) }
+        ensures end { IfOk result (λ more. more ≡ false → IfSome self.old.lines (λ lines. lines.ahead ≡ [])) }
+        ensures same { self.new.lines ≡ self.old.lines }
+        ensures only { IfErr result (λ f. (f ≡ OutOfMemory) ⊎ (f ≡ JournalFailed)) }
+        ensures failed { IfErr result (λ f. f ≡ JournalFailed → self.new.failures ≡ self.old.failures + 1) }
+        ensures not_failed { IfErr result (λ f. f ≡ OutOfMemory → self.new.failures ≡ self.old.failures) }
+        ensures no_failure { OnOk result (self.new.failures ≡ self.old.failures) }
+    {
+        self.reader.peek_line(alloc, line)
     }
 
     /// The journal, when all its lines were handed out. What stands behind them, a line that a crash has torn, is cut off, and
@@ -94,7 +110,7 @@ impl<L: Log + Drop> Opening<L> {
         match close(&mut log, size) {
             Ok(()) => Ok(Journal::new(log)),
             Err(failed) => {
-                let fault = JournalFault::from(failed);
+                let fault = Fault::from(failed);
                 Err(Refused { fault, log })
             }
         }
@@ -120,7 +136,7 @@ fn settle<L: Log + Drop>(log: L) -> Result<L, Refused<L>>
     match log.sync() {
         Ok(()) => Ok(log),
         Err(failed) => {
-            let fault = JournalFault::from(failed);
+            let fault = Fault::from(failed);
             Err(Refused { fault, log })
         }
     }
@@ -135,6 +151,7 @@ fn headed<L: Log + Drop>(
     requires handed { ForSome (L.told reader.log) (λ disk. Hands line.now (part_at 0 disk) (part_at reader.done disk)) }
     requires one_line { has_break line.now ≡ false }
     ensures ok { IfOk result (λ o. IfSome (L.told reader.log) (λ disk. Opens heading.now disk.seen o.lines)) }
+    ensures untold { IfOk result (λ o. L.told reader.log ≡ None → o.lines ≡ None) }
     ensures same_failures { IfOk result (λ o. o.failures ≡ L.failures reader.log) }
     ensures no_journal { IfErr result (λ r. (r.fault ≡ NotAJournal)
         × IfSome (L.told reader.log) (λ disk. epochs_in heading.now disk.seen ≡ None)) }
@@ -142,7 +159,7 @@ fn headed<L: Log + Drop>(
 {
     if line != heading {
         return Err(Refused {
-            fault: JournalFault::NotAJournal,
+            fault: Fault::NotAJournal,
             log: reader.log,
         });
     }
@@ -159,6 +176,7 @@ fn begun<L: Log + Drop>(
     requires no_line { has_break (drop reader.start reader.read.items) ≡ false }
     requires one_line { has_break heading.now ≡ false }
     ensures ok { IfOk result (λ o. IfSome (L.told reader.log) (λ disk. Opens heading.now disk.seen o.lines)) }
+    ensures untold { IfOk result (λ o. L.told reader.log ≡ None → o.lines ≡ None) }
     ensures same_failures { IfOk result (λ o. o.failures ≡ L.failures reader.log) }
     ensures no_journal { IfErr result (λ r. r.fault ≡ NotAJournal → (r.log ≡ reader.log)
         × IfSome (L.told reader.log) (λ disk. epochs_in heading.now disk.seen ≡ None)) }
@@ -168,20 +186,20 @@ fn begun<L: Log + Drop>(
 {
     let Ok(text) = with_feed(alloc, heading) else {
         return Err(Refused {
-            fault: JournalFault::OutOfMemory,
+            fault: Fault::OutOfMemory,
             log: reader.log,
         });
     };
     if !heading.starts_with(reader.ahead()) {
         return Err(Refused {
-            fault: JournalFault::NotAJournal,
+            fault: Fault::NotAJournal,
             log: reader.log,
         });
     }
     let size = reader.ahead().len();
     let mut log = reader.log;
     if let Err(failed) = add_synced(&mut log, &text[size..]) {
-        let fault = JournalFault::from(failed);
+        let fault = Fault::from(failed);
         return Err(Refused { fault, log });
     }
     let reader = Reader::new(alloc, log, text.len());

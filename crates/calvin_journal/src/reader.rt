@@ -2,11 +2,12 @@
 ghost use Rattle.std.specs.Prelude.{◌≡◌, ◌+◌, ◌-◌, ◌≤◌, ◌<◌, ◌∷◌, ◌++◌, [], true, false, length, drop, IfOk, IfErr, OnOk, OnErr, IfSome, ◌⊎◌};
 ghost use Rattle.std.specs.Option.{ForSome};
 ghost use Rattle.std.below.core.specs.declared.int.usize.TheConstants.{MAX};
-ghost use Rattle.calvin_journal_log.specs.declared.fault.JournalFault.TheVariants.{OutOfMemory, JournalFailed};
+ghost use Rattle.calvin_types.specs.declared.fault.Fault.TheVariants.{OutOfMemory, JournalFailed};
 ghost use Rattle.calvin_journal.specs.Lines.{has_break};
-ghost use Rattle.calvin_journal.specs.Readings.{IsStill, IsRead, part_at, Hands};
+ghost use Rattle.calvin_journal.specs.Readings.{IsStill, IsRead, BeginsWith, part_at, Hands};
 
-use calvin_journal_log::{JournalFault, Log};
+use calvin_journal_log::Log;
+use calvin_types::Fault;
 use memchr::memchr;
 use std::alloc::{AllocError, Global};
 
@@ -52,11 +53,7 @@ impl<L: Log + Drop> Reader<L> {
 
     /// Puts the next whole line in place of what `line` has, without its line feed, and says whether there was one. At the
     /// end all bytes that weren't handed out are read.
-    pub(crate) fn next_line(
-        &mut self,
-        alloc: Global,
-        line: &mut Vec<u8>,
-    ) -> Result<bool, JournalFault>
+    pub(crate) fn next_line(&mut self, alloc: Global, line: &mut Vec<u8>) -> Result<bool, Fault>
         ensures line { IfOk result (λ more. more ≡ true → IfSome (L.told self.old.log)
             (λ disk. Hands line.new.items (part_at self.old.done disk) (part_at self.new.done disk))) }
         ensures one_line { IfOk result (λ more. more ≡ true → has_break line.new.items ≡ false) }
@@ -71,7 +68,32 @@ impl<L: Log + Drop> Reader<L> {
         ensures not_failed { IfErr result (λ f. f ≡ OutOfMemory → L.failures self.new.log ≡ L.failures self.old.log) }
         ensures no_failure { OnOk result (L.failures self.new.log ≡ L.failures self.old.log) }
     {
-        while !self.take_line(line)? {
+        if !self.peek_line(alloc, line)? {
+            return Ok(false);
+        }
+        let size = line.len() + 1;
+        self.start += size;
+        self.done += size;
+        Ok(true)
+    }
+
+    /// Puts the next whole line in place of what `line` has, as `next_line` does, and doesn't hand it out.
+    pub(crate) fn peek_line(&mut self, alloc: Global, line: &mut Vec<u8>) -> Result<bool, Fault>
+        ensures found { IfOk result (λ more. more ≡ true → BeginsWith line.new.items (drop self.new.start self.new.read.items)) }
+        ensures line { IfOk result (λ more. more ≡ true → IfSome (L.told self.old.log)
+            (λ disk. BeginsWith line.new.items (drop self.old.done disk.seen))) }
+        ensures one_line { IfOk result (λ more. more ≡ true → has_break line.new.items ≡ false) }
+        ensures end { IfOk result (λ more. more ≡ false → IfSome (L.told self.old.log)
+            (λ disk. (drop self.new.start self.new.read.items ≡ drop self.old.done disk.seen))) }
+        ensures no_line { IfOk result (λ more. more ≡ false → has_break (drop self.new.start self.new.read.items) ≡ false) }
+        ensures same { self.new.done ≡ self.old.done }
+        ensures told { L.told self.new.log ≡ L.told self.old.log }
+        ensures only { IfErr result (λ f. (f ≡ OutOfMemory) ⊎ (f ≡ JournalFailed)) }
+        ensures failed { IfErr result (λ f. f ≡ JournalFailed → L.failures self.new.log ≡ L.failures self.old.log + 1) }
+        ensures not_failed { IfErr result (λ f. f ≡ OutOfMemory → L.failures self.new.log ≡ L.failures self.old.log) }
+        ensures no_failure { OnOk result (L.failures self.new.log ≡ L.failures self.old.log) }
+    {
+        while !self.copy_line(line)? {
             if !self.fill(alloc)? {
                 return Ok(false);
             }
@@ -80,15 +102,10 @@ impl<L: Log + Drop> Reader<L> {
     }
 
     /// The same of the bytes that were read already.
-    fn take_line(&mut self, line: &mut Vec<u8>) -> Result<bool, AllocError>
-        ensures line { IfOk result (λ more. more ≡ true → drop self.old.start self.old.read.items
-            ≡ line.new.items ++ 10 ∷ drop self.new.start self.new.read.items) }
-        ensures done { IfOk result (λ more. more ≡ true → self.new.done ≡ self.old.done + length line.new.items + 1) }
+    fn copy_line(&self, line: &mut Vec<u8>) -> Result<bool, AllocError>
+        ensures line { IfOk result (λ more. more ≡ true → BeginsWith line.new.items (drop self.now.start self.now.read.items)) }
         ensures one_line { IfOk result (λ more. more ≡ true → has_break line.new.items ≡ false) }
-        ensures no_line { IfOk result (λ more. more ≡ false → has_break (drop self.old.start self.old.read.items) ≡ false) }
-        ensures stays { IfOk result (λ more. more ≡ false → self.new ≡ self.old) }
-        ensures err { OnErr result (self.new ≡ self.old) }
-        ensures log { self.new.log ≡ self.old.log }
+        ensures no_line { IfOk result (λ more. more ≡ false → has_break (drop self.now.start self.now.read.items) ≡ false) }
     {
         let ahead = self.ahead();
         let Some(at) = memchr(b'\n', ahead) else {
@@ -96,13 +113,11 @@ impl<L: Log + Drop> Reader<L> {
         };
         line.clear();
         line.extend_from_slice(&ahead[..at])?;
-        self.start += at + 1;
-        self.done += at + 1;
         Ok(true)
     }
 
     /// Reads on, and says whether there was more.
-    fn fill(&mut self, alloc: Global) -> Result<bool, JournalFault>
+    fn fill(&mut self, alloc: Global) -> Result<bool, Fault>
         ensures same { self.new.done ≡ self.old.done }
         ensures told { L.told self.new.log ≡ L.told self.old.log }
         ensures more { IfOk result (λ more. more ≡ true → length (drop self.old.start self.old.read.items)

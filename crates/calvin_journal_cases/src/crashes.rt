@@ -1,7 +1,8 @@
 //! What is left of a journal after a refusal at each call, torn at each byte, and a crash that leaves each number of bytes.
 use crate::checks::{holds, same};
 use crate::journals::{WHOLE_HEADING, found, open};
-use calvin_journal_log::{JournalFault, Log, LogFailed, MemoryLog};
+use calvin_journal_log::{Log, LogFailed, MemoryLog};
+use calvin_types::Fault;
 use std::alloc::{AllocError, Global};
 use std::test::Fail;
 
@@ -95,11 +96,7 @@ fn a_refusal_while_a_journal_is_opened_loses_no_line(rt: HostRuntime) -> Result<
         match open(rt.alloc(), log) {
             Ok(_) => same(&rt, (calls, 5 <= calls), (calls, true)),
             Err(refused) => {
-                same(
-                    &rt,
-                    (calls, refused.fault),
-                    (calls, JournalFault::JournalFailed),
-                );
+                same(&rt, (calls, refused.fault), (calls, Fault::JournalFailed));
                 same(&rt, refused.log.left(usize::MAX), bytes.as_slice());
                 holds(&rt, refused.log.failures.is_raised());
             }

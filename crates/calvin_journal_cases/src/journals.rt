@@ -4,7 +4,8 @@ ghost use Rattle.calvin_journal.specs.Lines.{has_break};
 
 use crate::checks::{holds, same};
 use calvin_journal::{Journal, Opening, Refused};
-use calvin_journal_log::{JournalFault, Log, MemoryLog};
+use calvin_journal_log::{Log, MemoryLog};
+use calvin_types::Fault;
 use std::alloc::{AllocError, Global};
 use std::test::Fail;
 
@@ -42,7 +43,7 @@ pub(crate) fn open<L: Log + Drop>(alloc: Global, log: L) -> Result<Opened<L>, Re
             break;
         }
     }
-    let fault = JournalFault::OutOfMemory;
+    let fault = Fault::OutOfMemory;
     let log = opening.into_log();
     Err(Refused { fault, log })
 }
@@ -54,7 +55,7 @@ fn put_line(text: &mut Vec<u8>, line: &[u8]) -> Result<(), AllocError> {
 }
 
 /// What came of a call, or why there is none.
-pub(crate) fn or_fault<T, L: Log + Drop>(answer: Result<T, Refused<L>>) -> Result<T, JournalFault> {
+pub(crate) fn or_fault<T, L: Log + Drop>(answer: Result<T, Refused<L>>) -> Result<T, Fault> {
     match answer {
         Ok(value) => Ok(value),
         Err(refused) => Err(refused.fault),
@@ -62,7 +63,7 @@ pub(crate) fn or_fault<T, L: Log + Drop>(answer: Result<T, Refused<L>>) -> Resul
 }
 
 /// Whether a line feed is among bytes.
-fn has_break(bytes: &[u8]) -> bool
+pub(crate) fn has_break(bytes: &[u8]) -> bool
     ensures { result ≡ has_break bytes.now }
 {
     bytes.contains(&b'\n')
@@ -166,11 +167,7 @@ fn other_files_are_left_as_they_were(rt: HostRuntime) -> Result<(), Fail> {
         match open(rt.alloc(), found(rt.alloc(), row)?) {
             Ok(_) => same(&rt, number, rows.len()),
             Err(refused) => {
-                same(
-                    &rt,
-                    (number, refused.fault),
-                    (number, JournalFault::NotAJournal),
-                );
+                same(&rt, (number, refused.fault), (number, Fault::NotAJournal));
                 same(&rt, (number, refused.log.bytes.as_slice()), (number, row));
             }
         }

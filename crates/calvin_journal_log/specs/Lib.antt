@@ -1,4 +1,4 @@
 pub mod Beginnings
 pub mod Disks
-pub mod Faults
+pub mod Files
 pub mod Memory

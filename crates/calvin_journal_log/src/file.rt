@@ -2,15 +2,20 @@
 ghost use Rattle.std.specs.Prelude.{◌≡◌, ◌≢◌, ◌+◌, ◌≤◌, true, false, None, IfOk, IfErr, IsOk, IsErr, OnOk, OnErr};
 ghost use Rattle.std.specs.Io.{ReadsAtMost};
 ghost use Rattle.std.specs.IoError.{error_kind};
+ghost use Rattle.calvin_journal_log.specs.Files.{IsFileFault};
 
-use crate::fault::JournalFault;
+use crate::anew::{begin_anew, is_headed, is_regular, lock, put_in_place, write_anew};
 use crate::log::{Log, LogFailed};
+use crate::names::{
+    FileId, has_one_name, id_of, is_aside, is_special, names_of, stands_at, sync_folder,
+};
 use calvin_edge::{OutputSink, Tally, write_all};
-use std::fs::{File, OpenOptions, TryLockError};
+use calvin_types::Fault;
+use std::alloc::Global;
+use std::fs::{self, File, OpenOptions};
 use std::io;
 use std::io::ErrorKind;
 use std::os::unix::fs::FileExt;
-use std::path::Path;
 
 /// The most times that one read is tried while signals interrupt it, as often as std tries.
 const MOST_TRIES: u64 = u64::MAX;
@@ -22,35 +27,123 @@ pub struct FileLog {
     failures: Tally,
 }
 
+/// For what a journal's file is opened.
+#[derive(Clone, Copy, Debug, PartialEq, Eq)]
+pub enum Access {
+    /// To read the journal that is there.
+    Read,
+    /// To add to it, too; a journal that isn't there yet begins.
+    Add,
+}
+
 impl FileLog {
-    /// Opens the file at a path, or makes it, and locks it. The file and its name outlive a crash from then on.
+    /// Opens the file at a path, as a journal with this heading, and locks it. The file and its name outlive a crash from then
+    /// on. A journal that is to be added to is written anew, beside the old file under its name with `.anew` behind it, which it
+    /// then replaces: systems forget that a sync of the old one failed. So no journal has a name that ends in `.anew`, and what
+    /// a process that was cut off has left there is removed: a file that nobody has locked, and which begins with the heading's
+    /// line or is a beginning of it.
     ///
-    /// `NotAJournal` where something else than a file stands there, `JournalInUse` where another process has locked it, and
-    /// `JournalFailed` where the system refuses. A file that was there is left as it was.
-    pub fn open(rt: HostRuntime, path: &str) -> Result<FileLog, JournalFault> {
-        let opened = OpenOptions::new()
-            .read(true)
-            .append(true)
-            .create(true)
-            .open(&rt, path);
-        let Ok(file) = opened else {
-            return Err(JournalFault::JournalFailed);
+    /// `NotAJournal` where the path ends in `.anew`, or leads to a file whose name does; where something else than a file stands
+    /// there, for which nothing is waited; or a file that doesn't begin with the heading's line, nor is a beginning of it.
+    /// `JournalInUse` where another process has locked the file, or the one beside it. `JournalFailed` where the system refuses;
+    /// where nothing stands there that could be read; and, where the journal is to be added to, if anything stands beside it
+    /// that wasn't left so, or if its file has a second name, under which the old journal would go on. And `OutOfMemory`. Then a
+    /// file that was there is left as it was.
+    pub fn open(
+        rt: HostRuntime,
+        alloc: Global,
+        path: &str,
+        heading: &[u8],
+        access: Access,
+    ) -> Result<FileLog, Fault>
+        ensures only { IfErr result IsFileFault }
+    {
+        if is_aside(path) || is_special(&rt, path) {
+            return Err(Fault::NotAJournal);
+        }
+        let file = open_file(&rt, path, access)?;
+        let names = names_of(&rt, alloc, path)?;
+        lock(&file)?;
+        if !stands_at(&rt, &file, names.real.as_str())? {
+            return Err(Fault::JournalInUse);
+        }
+        if !is_headed(alloc, &file, heading)? {
+            return Err(Fault::NotAJournal);
+        }
+        let file = match access {
+            Access::Read => file,
+            Access::Add if !has_one_name(&file)? => return Err(Fault::JournalFailed),
+            Access::Add => write_anew(&rt, alloc, &names, heading, &file)?,
         };
-        if !is_regular(&file)? {
-            return Err(JournalFault::NotAJournal);
+        if file.sync_all().is_err() || !sync_folder(&rt, path) {
+            return Err(Fault::JournalFailed);
         }
-        match file.try_lock() {
-            Ok(()) => {}
-            Err(TryLockError::WouldBlock) => return Err(JournalFault::JournalInUse),
-            Err(TryLockError::Error(_)) => return Err(JournalFault::JournalFailed),
+        Ok(FileLog::of(file))
+    }
+
+    /// A log with no bytes yet in a file of its own, beside the journal at a path, which `replace` puts in the journal's place.
+    /// It is locked, and has the permissions of the journal's file. The caller has the journal open, to be added to, and keeps it
+    /// so until the place is taken: it is the journal's lock that says who may write beside it. A file that was left beside the
+    /// journal is removed first, as `open` does.
+    ///
+    /// `NotAJournal` where the path leads to a file whose name ends in `.anew`; `JournalInUse` where another process, or this
+    /// one, has the file beside the journal locked; `JournalFailed` where the system refuses, where no file stands at the path,
+    /// or something stands beside it that isn't to be removed; and `OutOfMemory`.
+    pub fn beside(
+        rt: HostRuntime,
+        alloc: Global,
+        path: &str,
+        heading: &[u8],
+    ) -> Result<FileLog, Fault>
+        ensures only { IfErr result IsFileFault }
+    {
+        let names = names_of(&rt, alloc, path)?;
+        let Ok(about) = fs::metadata(&rt, names.real.as_str()) else {
+            return Err(Fault::JournalFailed);
+        };
+        if !about.is_file() {
+            return Err(Fault::JournalFailed);
         }
-        if file.sync_all().is_err() || !sync_folder(rt, path) {
-            return Err(JournalFault::JournalFailed);
-        }
-        Ok(FileLog {
+        let aside = names.aside.as_str();
+        let file = begin_anew(&rt, alloc, aside, heading, about.permissions())?;
+        Ok(FileLog::of(file))
+    }
+
+    /// Which file the log is in. `JournalFailed` where the system doesn't say.
+    pub fn id(&self) -> Result<FileId, Fault>
+        ensures only { IfErr result IsFileFault }
+    {
+        id_of(&self.file.writer)
+    }
+
+    /// Has a log that was begun `beside` the journal at a path take its place: the file is synced, replaces that of the journal,
+    /// which is to be the old one still, under its name, and the name outlives a crash from then on. A crash leaves the old journal there or the new one, each as a
+    /// whole.
+    ///
+    /// `JournalFailed` where the system refuses, where another file than the old one stands at the path, or none, or the old one
+    /// has a second name, and where this log isn't the one beside it; and `OutOfMemory`. Where the system refused, the old journal may stand there or the new one. `NotAJournal` where the path leads
+    /// to a file whose name ends in `.anew`.
+    pub fn replace(
+        &self,
+        rt: HostRuntime,
+        alloc: Global,
+        path: &str,
+        old: FileId,
+    ) -> Result<(), Fault>
+        ensures only { IfErr result IsFileFault }
+    {
+        let names = names_of(&rt, alloc, path)?;
+        put_in_place(&rt, &self.file.writer, old, &names)
+    }
+
+    /// The log of a file that is locked.
+    fn of(file: File) -> FileLog
+        ensures no_failure { result.failures ≡ 0 }
+    {
+        FileLog {
             file: OutputSink::new(file),
             failures: Tally::new(),
-        })
+        }
     }
 
     /// Counts a refusal, if the system has refused.
@@ -68,29 +161,26 @@ impl FileLog {
     }
 }
 
-/// Whether a file is a regular one, which has an end and can be cut.
-fn is_regular(file: &File) -> Result<bool, JournalFault> {
-    match file.metadata() {
-        Ok(about) => Ok(about.is_file()),
-        Err(_) => Err(JournalFault::JournalFailed),
-    }
-}
-
-/// Has the name of a file outlive a crash, and says whether the system did so.
-fn sync_folder(rt: HostRuntime, path: &str) -> bool {
-    let folder = match Path::new(path).parent() {
-        Some(parent) => parent.to_str().unwrap_or("."),
-        None => ".",
+/// Opens the regular file at a path, which is made where it isn't there and is to be added to.
+fn open_file(rt: &HostRuntime, path: &str, access: Access) -> Result<File, Fault>
+    ensures only { IfErr result IsFileFault }
+{
+    let opened = OpenOptions::new()
+        .read(true)
+        .append(access == Access::Add)
+        .create(access == Access::Add)
+        .open(rt, path);
+    let Ok(file) = opened else {
+        return Err(Fault::JournalFailed);
     };
-    let folder = if folder.is_empty() { "." } else { folder };
-    match File::open(&rt, folder) {
-        Ok(folder) => folder.sync_all().is_ok(),
-        Err(_) => false,
+    if !is_regular(&file)? {
+        return Err(Fault::NotAJournal);
     }
+    Ok(file)
 }
 
 /// One read at an offset, tried again while a signal interrupts it.
-fn read_uninterrupted(file: &File, at: usize, buffer: &mut [u8]) -> io::Result<usize>
+pub(crate) fn read_uninterrupted(file: &File, at: usize, buffer: &mut [u8]) -> io::Result<usize>
     ensures bound { ReadsAtMost result buffer.new }
     ensures far { IfOk result (λ n. at + n ≤ usize.MAX) }
     ensures tried_again { IfErr result (λ e. error_kind e ≢ ErrorKind.Interrupted) }

@@ -2,12 +2,13 @@
 //! logs: one over memory, which fails and tears where a test wants it, and one over a file.
 #![tactic(auto)]
 
-mod fault;
+mod anew;
 mod file;
 mod log;
 mod memory;
+mod names;
 
-pub use fault::JournalFault;
-pub use file::FileLog;
+pub use file::{Access, FileLog};
 pub use log::{Log, LogFailed};
 pub use memory::MemoryLog;
+pub use names::FileId;

@@ -3,9 +3,21 @@ ghost use Rattle.std.specs.Prelude.{◌≡◌, ◌+◌, ◌≤◌, ◌<◌, ℕ,
 ghost use Rattle.std.specs.Option.{ForSome};
 ghost use Rattle.calvin_journal_log.specs.Disks.{Disk, IsInOrder, IsSettled, Leads, Appended, AppendedInPart, Synced, SyncedInPart, CutTo, CutInPart};
 
+use calvin_types::Fault;
+
 /// A call of a log was refused. What it was to do may be done in part.
 #[derive(Clone, Copy, Debug, PartialEq, Eq)]
 pub struct LogFailed;
+
+impl From<LogFailed> for Fault {
+    ghost use Rattle.calvin_types.specs.declared.fault.Fault.TheVariants.{JournalFailed};
+
+    ghost from_gives = { λ _ e. e ≡ JournalFailed };
+
+    fn from(_failed: LogFailed) -> Fault {
+        Fault::JournalFailed
+    }
+}
 
 /// Where a journal is kept: bytes that grow at their end.
 ///

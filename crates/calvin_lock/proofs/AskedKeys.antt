@@ -1,5 +1,5 @@
 -- Keys that are asked for one after another.
-use Rattle.std.proofs.Common.{◌≡◌, ℕ, zero, suc, ◌+◌, ◌≤◌, Bool, true, false, not, ◌&&◌, ◌||◌, List, [], ◌∷◌, Some, slice_get, take, length, refl, sym, ap, subst, ◌∙◌}
+use Rattle.std.proofs.Common.{◌≡◌, ℕ, zero, suc, ◌+◌, ◌≤◌, Bool, true, false, not, ◌&&◌, ◌||◌, List, [], ◌∷◌, Option, None, Some, slice_get, take, length, refl, sym, ap, subst, ◌∙◌}
 use Rattle.std.proofs.lemmas.Bool.{false≢true, and_parts}
 use Rattle.std.proofs.lemmas.List.{take_all}
 use Rattle.std.proofs.lemmas.Option.{none-some, same_Some}
@@ -105,3 +105,21 @@ asked_whole keys except i key at free = (λ j. has keys key && not (free j)) ∙
         either : (b : Bool) → (b || true) ≡ true
         either true = refl
         either false = refl
+
+-- so a key that isn't asked for is another one
+pub unasked_apart : (keys except : List Key) (i : ℕ) (key : Key) → slice_get keys i ≡ Some key → has except key ≡ false → (k : Key) → asked keys except k ≡ false → equal_keys key k ≡ false
+unasked_apart keys except i key at free k unasked = go (equal_keys key k) refl
+  where
+    go : (b : Bool) → equal_keys key k ≡ b → equal_keys key k ≡ false
+    go true same = absurd (false≢true (sym unasked ∙ ap (asked keys except) (sym (equal_keys_exact key k same)) ∙ asked_whole keys except i key at free))
+    go false apart = apart
+
+-- of what was made for some keys nothing is left where first those that are written are gone, and then those that are read
+pub gone_again : {X : Type 0} (key : Key) (writes reads : List Key) (made between now : Option X) → (asked writes [] key ≡ false → asked reads writes key ≡ false → made ≡ None)
+    → (made ≡ None → between ≡ None) → (between ≡ None → now ≡ None) → (has writes key ≡ true → between ≡ None) → (has reads key ≡ true → now ≡ None) → now ≡ None
+gone_again key writes reads made between now others first second written read = go (has writes key) refl (has reads key) refl
+  where
+    go : (w : Bool) → has writes key ≡ w → (r : Bool) → has reads key ≡ r → now ≡ None
+    go true is r either = second (written is)
+    go false unwritten true is = read is
+    go false unwritten false unread = second (first (others (ap (λ b. b && true) unwritten) (ap (λ b. b && not (has writes key)) unread)))

@@ -1,5 +1,5 @@
 -- The queues of all keys, where that of one key changes.
-use Rattle.std.proofs.Common.{◌≡◌, ◌++◌, ℕ, ◌+◌, Bool, true, false, cond, List, [], ◌∷◌, length, Option, Some, None, MatchOption, slice_get, take, refl, sym, ap, subst, ◌∙◌, arith, deque_len, length-append}
+use Rattle.std.proofs.Common.{◌≡◌, ◌==◌, ◌++◌, ℕ, ◌+◌, Bool, true, false, cond, List, [], ◌∷◌, length, Option, Some, None, MatchOption, slice_get, take, refl, sym, ap, subst, ◌∙◌, arith, deque_len, length-append}
 use Rattle.std.proofs.lemmas.Bool.{false≢true}
 use Rattle.std.proofs.lemmas.Option.{none-some, same_Some}
 use Rattle.std.specs.List.{IsDistinct}
@@ -15,12 +15,12 @@ use Rattle.calvin_lock.specs.declared.queue.Holders.{Holders}
 use Rattle.calvin_lock.specs.declared.queue.Holders.TheVariants.{Shared, Exclusive}
 use Rattle.calvin_lock.specs.declared.queue.Ask.{Ask}
 use Rattle.calvin_lock.specs.declared.queue.Queue.{Queue}
-use Rattle.calvin_lock.specs.Queues.{admits, ask_if, asked, holder_count, AreHolders, IsQueueOf, IsSettled, IsQueueAt, queue_at, waits_in, AreQueues, HasRoom, HasRoomAt, Fits, AllFit, Leaves, LeavesAt, without_holder}
+use Rattle.calvin_lock.specs.Queues.{admits, ask_if, asked, holder_count, AreHolders, IsQueueOf, IsSettled, IsQueueAt, queue_at, waits_in, AreQueuesOrEmpty, AreQueues, NoneIsEmpty, NoneIsNew, HasRoom, HasRoomAt, Fits, AllFit, Leaves, LeavesAt, without_holder}
 use Rattle.calvin_lock.proofs.AskedKeys.{asked_before, asked_now, asked_other}
 use Rattle.calvin_lock.proofs.QueueLists.{no_asks, append_none, zero_count, left}
 
 -- the same for each key
-pub same_asks : (asks others : Key → List Ask) (es : List (Key × Queue)) → ((k : Key) → asks k ≡ others k) → AreQueues asks es → AreQueues others es
+pub same_asks : (asks others : Key → List Ask) (es : List (Key × Queue)) → ((k : Key) → asks k ≡ others k) → AreQueuesOrEmpty asks es → AreQueuesOrEmpty others es
 same_asks asks others es same q = record { at = λ k. subst (λ l. IsQueueAt l (queue_at es k)) (same k) (q.at k); distinct = q.distinct }
 
 -- the same queue, with more room
@@ -51,12 +51,40 @@ free_empty asks v free (queue, settled, fits) = queue.split ∙ ap (λ l. queue.
     unheld (Shared n) held free (len, all) = no_asks held (len ∙ zero_count n free)
     unheld Exclusive held free is = absurd (false≢true free)
 
+-- a queue of nobody is free
+pub empty_free : (asks : List Ask) (v : Queue) → asks ≡ [] → IsQueueAt asks (Some v) → admits v.holders kind.Exclusive ≡ true
+empty_free asks v none (queue, settled, fits) =
+    go v.holders queue.held queue.holders (no_asks queue.held (let long = length-append queue.held v.waiting.items in let zero = ap length (sym queue.split ∙ none) in omega (arith, long, zero)))
+  where
+    go : (h : Holders) (held : List Ask) → AreHolders h held → held ≡ [] → admits h kind.Exclusive ≡ true
+    go (Shared n) held (len, all) empty = ap (λ m. m == 0) (sym len ∙ ap length empty)
+    go Exclusive held (a, is, alone) empty = absurd (let none = ap length (sym is ∙ empty) in omega (arith, none))
+
+pub same_queues : (asks others : Key → List Ask) (es : List (Key × Queue)) → ((k : Key) → asks k ≡ others k) → AreQueues asks es → AreQueues others es
+same_queues asks others es same q = record { served = same_asks asks others es same q.served; nobody = λ k none. q.nobody k (same k ∙ none) }
+
+-- a key that has no queue gets none where another key's queue changes, or goes
+module _ (es now : List (Key × Queue)) (key : Key) (w : Option Queue) (updated : (k : Key) → queue_at now k ≡ cond (equal_keys key k) w (queue_at es k)) where
+  pub none_other : (k : Key) → equal_keys key k ≡ false → queue_at es k ≡ None → queue_at now k ≡ None
+  none_other k apart none = updated k ∙ ap (λ b. cond b w (queue_at es k)) apart ∙ none
+
+  pub none_here : w ≡ None → queue_at now key ≡ None
+  none_here gone = updated key ∙ ap (λ b. cond b w (queue_at es key)) (equal_keys_self key) ∙ gone
+
+  -- so it is for each key where one that had a queue is concerned
+  pub none_is_new : (v : Queue) → queue_at es key ≡ Some v → NoneIsNew es now
+  none_is_new v found k none = go (equal_keys key k) refl
+    where
+      go : (b : Bool) → equal_keys key k ≡ b → queue_at now k ≡ None
+      go true same = absurd (none-some v (sym none ∙ ap (queue_at es) (sym (equal_keys_exact key k same)) ∙ found))
+      go false apart = none_other k apart none
+
 -- one key's queue changes, or goes
 module _ (asks others : Key → List Ask) (es now : List (Key × Queue)) (key : Key) (w : Option Queue)
-    (queues : AreQueues asks es) (distinct : IsDistinct equal_keys (keys_of now))
+    (queues : AreQueuesOrEmpty asks es) (distinct : IsDistinct equal_keys (keys_of now))
     (updated : (k : Key) → queue_at now k ≡ cond (equal_keys key k) w (queue_at es k))
     (here : IsQueueAt (others key) w) (elsewhere : (k : Key) → equal_keys key k ≡ false → asks k ≡ others k) where
-  pub changed : AreQueues others now
+  pub changed : AreQueuesOrEmpty others now
   changed = record { at = λ k. go k (equal_keys key k) refl; distinct = distinct }
     where
       go : (k : Key) (b : Bool) → equal_keys key k ≡ b → IsQueueAt (others k) (queue_at now k)
@@ -89,7 +117,7 @@ module _ (es now : List (Key × Queue)) (key : Key) (w : Queue) (updated : (k : 
 pub room_at : (es : List (Key × Queue)) (key : Key) (v : Queue) (other : Kind) → queue_at es key ≡ Some v → HasRoomAt es key other → HasRoom v other
 room_at es key v other found room = subst (λ o. MatchOption o ⊥ (λ q. HasRoom q other)) found room
 
-pub queue_found : (asks : Key → List Ask) (es : List (Key × Queue)) (key : Key) (o : Option Queue) → AreQueues asks es → queue_at es key ≡ o → IsQueueAt (asks key) o
+pub queue_found : (asks : Key → List Ask) (es : List (Key × Queue)) (key : Key) (o : Option Queue) → AreQueuesOrEmpty asks es → queue_at es key ≡ o → IsQueueAt (asks key) o
 queue_found asks es key o queues found = subst (IsQueueAt (asks key)) found (queues.at key)
 
 -- the next key is asked for
@@ -126,7 +154,7 @@ module _ (es now : List (Key × Queue)) (key : Key) where
       go true same = subst Fits (same_Some w v (sym (updated k ∙ ap (λ b. cond b (Some w) (queue_at es k)) same) ∙ found)) here
       go false apart = fits k v (sym (updated k ∙ ap (λ b. cond b (Some w) (queue_at es k)) apart) ∙ found)
 
-pub all_fit : (asks : Key → List Ask) (es : List (Key × Queue)) → AreQueues asks es → AllFit es
+pub all_fit : (asks : Key → List Ask) (es : List (Key × Queue)) → AreQueuesOrEmpty asks es → AllFit es
 all_fit asks es queues k v found = (subst (IsQueueAt (asks k)) found (queues.at k)).2
 
 -- who leaves was there
@@ -149,3 +177,12 @@ module _ (keys except : List Key) (i : ℕ) (key : Key) (at : slice_get keys i �
         (subst (Leaves (before key)) (sym (ap (λ b. cond b (after key) (before key)) (asked_now keys except i key at free))) leaves),
     λ k apart. ap (λ b. cond b (after k) (before k)) (sym (asked_other keys except i key at k apart)),
   )
+
+  -- and its queue is let go where nobody asks for it any more
+  pub next_nobody : (queues between now : List (Key × Queue)) → NoneIsEmpty (λ k. cond (asked (take i keys) except k) (after k) (before k)) queues → NoneIsNew queues between → NoneIsNew between now
+      → (cond (asked (take (i + 1) keys) except key) (after key) (before key) ≡ [] → queue_at now key ≡ None) → NoneIsEmpty (λ k. cond (asked (take (i + 1) keys) except k) (after k) (before k)) now
+  next_nobody queues between now old first second here k none = go (equal_keys key k) refl
+    where
+      go : (b : Bool) → equal_keys key k ≡ b → queue_at now k ≡ None
+      go true same = subst (λ x. queue_at now x ≡ None) (equal_keys_exact key k same) (here (subst (λ x. cond (asked (take (i + 1) keys) except x) (after x) (before x) ≡ []) (sym (equal_keys_exact key k same)) none))
+      go false apart = second k (first k (old k (ap (λ b. cond b (after k) (before k)) (sym (asked_other keys except i key at k apart)) ∙ none)))

@@ -1,5 +1,5 @@
 -- Lock queues beside the unreleased requests, and what a request and a release make of them.
-use Rattle.std.proofs.Common.{◌≡◌, ◌↔◌, ℕ, ◌+◌, Bool, true, false, cond, not, ◌&&◌, if◌then◌else◌, inl, inr, List, [], ◌∷◌, ◌++◌, Option, Some, None, slice_get, refl, sym, ap, subst, ◌∙◌, arith}
+use Rattle.std.proofs.Common.{◌≡◌, ◌↔◌, ℕ, ◌+◌, Bool, true, false, cond, not, ◌&&◌, if◌then◌else◌, inl, inr, List, [], ◌∷◌, ◌++◌, Option, Some, None, slice_get, length, refl, sym, ap, subst, ◌∙◌, arith, length-append}
 use Rattle.std.proofs.lemmas.Bool.{false≢true, and_parts}
 use Rattle.std.proofs.lemmas.Option.{none-some, same_Some}
 use Rattle.std.specs.Ordering.{eq_by_cmp}
@@ -22,13 +22,13 @@ use Rattle.calvin_lock.specs.declared.unreleased.Pending.{Pending}
 use Rattle.calvin_lock.specs.declared.unreleased.Unreleased.{Unreleased}
 use Rattle.calvin_lock.specs.Ready.{IsReady, IsPast, IsFirstReady}
 use Rattle.calvin_lock.specs.ListOrder.{IsFree}
-use Rattle.calvin_lock.specs.Queues.{equal_places, asked, ask_of, asks_of, waits_in, waits_of, IsQueueAt, AreQueues, Leaves}
+use Rattle.calvin_lock.specs.Queues.{equal_places, asked, ask_of, asks_of, waits_in, waits_of, queue_at, IsQueueAt, AreQueuesOrEmpty, AreQueues, NoneIsEmpty, Leaves}
 use Rattle.calvin_lock.specs.Unreleased.{Among, pending_at, IsReadyIn, IsUnreleased, IsUpTo, WaitsFor, IsFirstReadyIn}
 use Rattle.calvin_lock.specs.Queued.{requests_of, IsQueued}
 use Rattle.calvin_lock.proofs.Entries.{sum_none}
 use Rattle.calvin_lock.proofs.PlaceTests.{places_exact, places_self}
 use Rattle.calvin_lock.proofs.QueueLists.{append_none, unasked_free}
-use Rattle.calvin_lock.proofs.QueueMaps.{same_asks}
+use Rattle.calvin_lock.proofs.QueueMaps.{same_queues}
 use Rattle.calvin_lock.proofs.ReadyByQueues.{AsksFor, ask_cases, asks_append, unfound_waits, leaves_queue, stays_queue, free_waits, waits_free}
 use Rattle.calvin_lock.proofs.Requests.{found_index, index_found, find_without, free_ready, ready_free, stands, unfound, past_before, in_order_push, in_order_without, pushed, removed}
 
@@ -71,7 +71,7 @@ module _ (queues : List (Key × Queue)) (u : Unreleased) (last : Option Place) (
 
   -- a place that waits for no key is free
   pub free_at : (q : Place) (p : Pending) → pending_at u.places.entries q ≡ Some p → p.waits ≡ 0 → (i : ℕ) → slice_get k.requests i ≡ Some (q, p.sets) → IsFree k.requests i
-  free_at q p found zero i at = waits_free k.requests k.order.rising i q p.sets at queues k.asked (sym (k.waits q p found) ∙ zero)
+  free_at q p found zero i at = waits_free k.requests k.order.rising i q p.sets at queues k.asked.served (sym (k.waits q p found) ∙ zero)
 
   -- the places that wait for no key are the ready ones
   pub ready_iff : (q : Place) → IsReadyIn u.places.entries q ↔ IsReady (from_entries (requests_of u.places.entries)) q
@@ -87,7 +87,7 @@ module _ (queues : List (Key × Queue)) (u : Unreleased) (last : Option Place) (
           let ready = subst (λ m. IsReady m q) kept_map said in
           let at = stands k.requests k.order.rising q ready.0 ready.1 in
           let pending = some_sets (pending_at u.places.entries q) ready.0 (sym (k.same q) ∙ index_found k.requests at.0 (q, ready.0) k.order.rising at.1) in
-          let none = free_waits k.requests k.order.rising at.0 q ready.0 at.1 queues k.asked (ready_free k.requests k.order.rising at.0 (q, ready.0) at.1 ready) in
+          let none = free_waits k.requests k.order.rising at.0 q ready.0 at.1 queues k.asked.served (ready_free k.requests k.order.rising at.0 (q, ready.0) at.1 ready) in
           (pending.0, pending.1.0, k.waits q pending.0 pending.1.0 ∙ none)
 
   pub first_is : (after answer : Option Place) → IsFirstReadyIn u.places.entries after answer → IsFirstReady (from_entries (requests_of u.places.entries)) after answer
@@ -107,8 +107,8 @@ module _ (queues : List (Key × Queue)) (u : Unreleased) (last : Option Place) (
     unasked key = unfound_waits key place k.requests (unfound last place k.requests k.order.up_to past)
 
     waits_nowhere : waits_of place queues ≡ 0
-    waits_nowhere = sum_none (λ (v : Queue). waits_in place v.waiting.items) equal_keys_equiv queues k.asked.distinct (λ key v found.
-        unasked_free (asks_of key k.requests) v.holders v.waiting.items (subst (IsQueueAt (asks_of key k.requests)) found (k.asked.at key)).0 place (unasked key))
+    waits_nowhere = sum_none (λ (v : Queue). waits_in place v.waiting.items) equal_keys_equiv queues k.asked.served.distinct (λ key v found.
+        unasked_free (asks_of key k.requests) v.holders v.waiting.items (subst (IsQueueAt (asks_of key k.requests)) found (k.asked.served.at key)).0 place (unasked key))
 
     module _ (v : Unreleased) (p : Pending) (updated : (q : Place) → pending_at v.places.entries q ≡ cond (equal_places place q) (Some p) (pending_at u.places.entries q)) where
       pub more_is : (q : Place) → find place_cmp q (k.requests ++ (place, p.sets) ∷ []) ≡ sets_of (pending_at v.places.entries q)
@@ -127,7 +127,8 @@ module _ (queues : List (Key × Queue)) (u : Unreleased) (last : Option Place) (
       requested_map = map_is (k.requests ++ (place, p.sets) ∷ []) v.places.entries more_is ∙ pushed k.requests last place p.sets k.order past ∙ ap (λ m. map.insert m place p.sets) (sym kept_map)
 
       module _ (now : List (Key × Queue)) (kept : IsUnreleased v) (up_to : IsUpTo v (Some place))
-          (joined : AreQueues (λ key. asks_of key k.requests ++ ask_of key (place, p.sets)) now)
+          (joined : AreQueuesOrEmpty (λ key. asks_of key k.requests ++ ask_of key (place, p.sets)) now)
+          (others : (key : Key) → asked p.sets.writes [] key ≡ false → asked p.sets.reads p.sets.writes key ≡ false → queue_at queues key ≡ None → queue_at now key ≡ None)
           (counted : (q : Place) → waits_of q now ≡ waits_of q queues + (if equal_places q place then p.waits else 0)) where
         more_waits : WaitsFor (λ q. waits_of q now) v.places.entries
         more_waits q r found = go (equal_places place q) refl
@@ -153,12 +154,23 @@ module _ (queues : List (Key × Queue)) (u : Unreleased) (last : Option Place) (
                 other true same apart = absurd (false≢true (sym apart ∙ ap (equal_places place) (places_exact q place same) ∙ places_self place))
                 other false same apart = same
 
+        nobody_joined : NoneIsEmpty (λ key. asks_of key k.requests ++ ask_of key (place, p.sets)) now
+        nobody_joined key none = elim (ask_cases key (place, p.sets)) [
+          | inl unasked ↦ others key (ap (λ b. b && true) unasked.writes) (ap (λ b. b && not (has p.sets.writes key)) unasked.reads) (k.asked.nobody key (sym (append_none (asks_of key k.requests)) ∙ ap (λ l. asks_of key k.requests ++ l) (sym unasked.is) ∙ none))
+          | inr (a, mine) ↦ absurd (
+              let long = length-append (asks_of key k.requests) (ask_of key (place, p.sets)) in
+              let one = ap length mine.is in
+              let zero = ap length none in
+              omega (arith, long, one, zero)
+              )
+        ]
+
         pub requested : IsQueued now v (Some place)
         requested = record {
           requests = k.requests ++ (place, p.sets) ∷ [];
           order = in_order_push k.requests last place p.sets k.order past;
           same = more_is;
-          asked = same_asks _ _ now (λ key. ap (λ l. asks_of key k.requests ++ l) (sym (append_none (ask_of key (place, p.sets)))) ∙ sym (asks_append key k.requests ((place, p.sets) ∷ []))) joined;
+          asked = same_queues _ _ now (λ key. ap (λ l. asks_of key k.requests ++ l) (sym (append_none (ask_of key (place, p.sets)))) ∙ sym (asks_append key k.requests ((place, p.sets) ∷ []))) (record { served = joined; nobody = nobody_joined });
           waits = more_waits;
           unreleased = kept;
           up_to = up_to;
@@ -252,7 +264,7 @@ module _ (queues : List (Key × Queue)) (u : Unreleased) (last : Option Place) (
             requests = remove k.requests (at_request place (record { sets = h; waits = 0; near = n }) ready).0;
             order = in_order_without k.requests last (at_request place (record { sets = h; waits = 0; near = n }) ready).0 k.order;
             same = less_is;
-            asked = same_asks _ _ now left_all left;
+            asked = same_queues _ _ now left_all left;
             waits = waits;
             unreleased = kept;
             up_to = λ q there. k.up_to q (subst (λ l. Among l q) same there);

@@ -20,7 +20,7 @@ use Rattle.calvin_lock.specs.declared.queue.Ask.{Ask}
 use Rattle.calvin_lock.specs.declared.queue.Queue.{Queue}
 use Rattle.calvin_lock.specs.Ready.{Conflict}
 use Rattle.calvin_lock.specs.ListOrder.{IsFree}
-use Rattle.calvin_lock.specs.Queues.{is_shared, AllShared, IsQueueOf, IsQueueAt, IsFirst, ask_if, ask_of, asks_of, equal_places, place_is, is_of, waits_in, waits_of, queue_at, AreQueues, Leaves}
+use Rattle.calvin_lock.specs.Queues.{is_shared, AllShared, IsQueueOf, IsQueueAt, IsFirst, ask_if, ask_of, asks_of, equal_places, place_is, is_of, waits_in, waits_of, queue_at, AreQueuesOrEmpty, Leaves}
 use Rattle.calvin_lock.proofs.Conflicts.{of_either, in_first, in_second}
 use Rattle.calvin_lock.proofs.Entries.{sum_part, sum_none}
 use Rattle.calvin_lock.proofs.PlaceTests.{places_exact, places_self}
@@ -255,7 +255,7 @@ module _ (requests : List (Place × Sets)) (rising : T (is_sorted place_cmp requ
   pub stays_queue : (k : Key) → AsksNot k (q, h) → asks_of k requests ≡ asks_of k (remove requests i)
   stays_queue k none = asks_around k ∙ ap (λ l. asks_of k (take i requests) ++ (l ++ asks_of k (drop (suc i) requests))) none.is ∙ sym (asks_append k (take i requests) (drop (suc i) requests))
 
-  module _ (queues : List (Key × Queue)) (are : AreQueues (λ k. asks_of k requests) queues) where
+  module _ (queues : List (Key × Queue)) (are : AreQueuesOrEmpty (λ k. asks_of k requests) queues) where
     queue_is : (k : Key) (o : Option Queue) → queue_at queues k ≡ o → IsQueueAt (asks_of k requests) o
     queue_is k o found = subst (IsQueueAt (asks_of k requests)) found (are.at k)
 

@@ -1,6 +1,7 @@
 -- What lock queues keep of the unreleased requests. The notion is of this project.
 --     requests_of pending      the unreleased requests, in any order
---     IsQueued queues u last      the queues and the waiting places are those of the unreleased requests, in their order
+--     IsQueued queues u last      the queues and the waiting places are those of the unreleased requests, in their order, and no
+--         queue is of nobody
 use Rattle.std.specs.Prelude.{◌≡◌, List, Option, map}
 use Rattle.std.specs.Option.{option_map}
 use Rattle.std.specs.FinMap.{find}

@@ -20,7 +20,10 @@
 --     waits_in q waiting      how often q is among those who wait
 --     waits_of q queues      in how many queues q waits
 --     queue_at queues k      the queue of the key k, if there is one
---     AreQueues asks queues      each key's queue is that of those who ask for it
+--     AreQueuesOrEmpty asks queues      each key's queue is that of those who ask for it; there may be queues of nobody
+--     NoneIsEmpty asks queues      no queue is of nobody
+--     AreQueues asks queues      each key's queue is that of those who ask for it, and a key that nobody asks for has none
+--     NoneIsNew before after      no key has a queue that had none
 --     HasRoomAt queues k kind      the queue of the key k is there and has room for one more, who asks so
 --     AllFit queues      no queue has more than can be counted
 --     Leaves before after      of those who ask, one who is first leaves
@@ -127,9 +130,19 @@ waits_of q queues = sum_by (λ (v : Queue). waits_in q v.waiting.items) (values_
 abbrev pub queue_at : List (Key × Queue) → Key → Option Queue
 queue_at queues k = lookup (equal_keys k) queues
 
-pub record AreQueues (asks : Key → List Ask) (queues : List (Key × Queue)) : Type 0 where
+pub record AreQueuesOrEmpty (asks : Key → List Ask) (queues : List (Key × Queue)) : Type 0 where
   pub at : (k : Key) → IsQueueAt (asks k) (queue_at queues k)
   pub distinct : IsDistinct equal_keys (keys_of queues)
+
+abbrev pub NoneIsEmpty : (Key → List Ask) → List (Key × Queue) → Type 0
+NoneIsEmpty asks queues = (k : Key) → asks k ≡ [] → queue_at queues k ≡ None
+
+pub record AreQueues (asks : Key → List Ask) (queues : List (Key × Queue)) : Type 0 where
+  pub served : AreQueuesOrEmpty asks queues
+  pub nobody : NoneIsEmpty asks queues
+
+abbrev pub NoneIsNew : List (Key × Queue) → List (Key × Queue) → Type 0
+NoneIsNew before after = (k : Key) → queue_at before k ≡ None → queue_at after k ≡ None
 
 abbrev pub HasRoomAt : List (Key × Queue) → Key → Kind → Type 0
 HasRoomAt queues k kind = MatchOption (queue_at queues k) ⊥ (λ q. HasRoom q kind)

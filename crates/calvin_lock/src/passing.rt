@@ -4,7 +4,7 @@ ghost use Rattle.std.specs.Option.{option_map};
 ghost use Rattle.calvin_types.specs.declared.key.Key.{Key};
 ghost use Rattle.calvin_types.specs.declared.place.Place.{Place};
 ghost use Rattle.calvin_lock.specs.declared.queue.Ask.{Ask};
-ghost use Rattle.calvin_lock.specs.Queues.{Fits, IsQueueOf, IsSettled, waits_in, waits_of, asked, AreQueues, AllFit, Leaves, LeavesAt};
+ghost use Rattle.calvin_lock.specs.Queues.{Fits, IsQueueOf, IsSettled, waits_in, waits_of, asked, AreQueuesOrEmpty, AreQueues, NoneIsEmpty, NoneIsNew, AllFit, Leaves, LeavesAt};
 ghost use Rattle.calvin_lock.specs.Unreleased.{IsUnreleased, WaitsFor, pending_at};
 
 use crate::queue::Queue;
@@ -38,7 +38,8 @@ impl Queues {
         ensures fits { AllFit self.new.queues.entries }
         ensures sets { (q : Place) → option_map (λ p. p.sets) (pending_at unreleased.new.places.entries q) ≡ option_map (λ p. p.sets) (pending_at unreleased.old.places.entries q) }
         ensures order { unreleased.new.order.items ≡ unreleased.old.order.items }
-        ensures queues { (before after : Key → List Ask) → AreQueues before self.old.queues.entries → LeavesAt key before after → AreQueues after self.new.queues.entries }
+        ensures queues { (before after : Key → List Ask) → AreQueuesOrEmpty before self.old.queues.entries → LeavesAt key before after → AreQueuesOrEmpty after self.new.queues.entries }
+        ensures none_new { NoneIsNew self.old.queues.entries self.new.queues.entries }
         ensures waits { WaitsFor (λ q. waits_of q self.old.queues.entries) unreleased.old.places.entries → WaitsFor (λ q. waits_of q self.new.queues.entries) unreleased.new.places.entries }
     {
         if let Some(queue) = self.queues.get_mut(&key) {
@@ -56,8 +57,9 @@ impl Queues {
         ensures fits { AllFit self.new.queues.entries }
         ensures sets { (q : Place) → option_map (λ p. p.sets) (pending_at unreleased.new.places.entries q) ≡ option_map (λ p. p.sets) (pending_at unreleased.old.places.entries q) }
         ensures order { unreleased.new.order.items ≡ unreleased.old.order.items }
-        ensures queues { (before after : Key → List Ask) → AreQueues before self.old.queues.entries → ((k : Key) → asked keys.now except.now k ≡ true → Leaves (before k) (after k)) → AreQueues (λ k. cond (asked keys.now except.now k) (after k) (before k)) self.new.queues.entries }
-        ensures waits { (before after : Key → List Ask) → AreQueues before self.old.queues.entries → ((k : Key) → asked keys.now except.now k ≡ true → Leaves (before k) (after k)) → WaitsFor (λ q. waits_of q self.old.queues.entries) unreleased.old.places.entries → WaitsFor (λ q. waits_of q self.new.queues.entries) unreleased.new.places.entries }
+        ensures queues { (before after : Key → List Ask) → AreQueuesOrEmpty before self.old.queues.entries → ((k : Key) → asked keys.now except.now k ≡ true → Leaves (before k) (after k)) → AreQueuesOrEmpty (λ k. cond (asked keys.now except.now k) (after k) (before k)) self.new.queues.entries }
+        ensures nobody { (before after : Key → List Ask) → AreQueues before self.old.queues.entries → ((k : Key) → asked keys.now except.now k ≡ true → Leaves (before k) (after k)) → NoneIsEmpty (λ k. cond (asked keys.now except.now k) (after k) (before k)) self.new.queues.entries }
+        ensures waits { (before after : Key → List Ask) → AreQueuesOrEmpty before self.old.queues.entries → ((k : Key) → asked keys.now except.now k ≡ true → Leaves (before k) (after k)) → WaitsFor (λ q. waits_of q self.old.queues.entries) unreleased.old.places.entries → WaitsFor (λ q. waits_of q self.new.queues.entries) unreleased.new.places.entries }
     {
         for i in 0..keys.len() {
             let key = keys.at(i);

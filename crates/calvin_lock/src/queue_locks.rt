@@ -1,10 +1,10 @@
 //! Locks as a queue for each key.
-ghost use Rattle.std.specs.Prelude.{◌≡◌, List, [], true, OnOk, IsOkUnless};
+ghost use Rattle.std.specs.Prelude.{◌≡◌, List, [], true, false, None, OnOk, IsOkUnless};
 ghost use Rattle.calvin_types.specs.declared.key.Key.{Key};
 ghost use Rattle.calvin_types.specs.declared.place.Place.{Place};
 ghost use Rattle.calvin_lock.specs.declared.queue.Kind.{Kind};
 ghost use Rattle.calvin_lock.specs.declared.queue.Ask.{Ask};
-ghost use Rattle.calvin_lock.specs.Queues.{asked, waits_of, AreQueues, HasRoomAt};
+ghost use Rattle.calvin_lock.specs.Queues.{asked, waits_of, queue_at, AreQueuesOrEmpty, HasRoomAt};
 ghost use Rattle.calvin_lock.specs.Unreleased.{Among, IsUnreleased, HasPlace};
 
 use crate::list_locks::is_past;
@@ -55,8 +55,9 @@ fn reserve(
     ensures kept { IsUnreleased unreleased.new }
     ensures places { unreleased.new.places.entries ≡ unreleased.old.places.entries }
     ensures order { (q : Place) → Among unreleased.new.order.items q → Among unreleased.old.order.items q }
-    ensures queues { (asks : Key → List Ask) → AreQueues asks queues.old.queues.entries → AreQueues asks queues.new.queues.entries }
+    ensures queues { (asks : Key → List Ask) → AreQueuesOrEmpty asks queues.old.queues.entries → AreQueuesOrEmpty asks queues.new.queues.entries }
     ensures waits { (q : Place) → waits_of q queues.new.queues.entries ≡ waits_of q queues.old.queues.entries }
+    ensures others { (k : Key) → asked writes.now [] k ≡ false → asked reads.now writes.now k ≡ false → queue_at queues.old.queues.entries k ≡ None → queue_at queues.new.queues.entries k ≡ None }
     ensures place { OnOk result (HasPlace unreleased.new) }
     ensures writes { OnOk result ((k : Key) → asked writes.now [] k ≡ true → HasRoomAt queues.new.queues.entries k Kind.Exclusive) }
     ensures reads { OnOk result ((k : Key) → asked reads.now writes.now k ≡ true → HasRoomAt queues.new.queues.entries k Kind.Shared) }

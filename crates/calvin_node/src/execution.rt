@@ -36,13 +36,13 @@ impl<A: App, L: Locks + Drop, S: Rows<A::Row> + Drop> Node<A, L, S> {
     /// The request at a place has its locks, and reads what is stored here: where a key that it reads is, the other partitions
     /// of the replica that run it are sent these rows (section 3.2). Refused with `NotReady` where it isn't admitted, with
     /// `Begun` where it has begun or is done, else with `NotReady` where it hasn't all its locks; else with `OutOfMemory`
-    /// where it reads a key here and a growth was refused.
+    /// where it reads a key here, another partition runs it too, and a growth was refused.
     pub fn begin(&mut self, place: Place, outbox: &mut Outbox<A>) -> Result<(), Fault>
         ensures did { NodeDid (act_grows self.old.config (act.Begin place) self.old.state) result (acting.begin self.old.config place self.old.state) self.old self.new outbox.old.packets outbox.new.packets }
     {
         self.scheduler.due_is_undone();
         self.scheduler.check_begin(place)?;
-        if !self.scheduler.reads_here(place) {
+        if !self.scheduler.serves_others(place) {
             self.scheduler.begin_in_place(place)?;
             return Ok(());
         }

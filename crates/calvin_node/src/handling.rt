@@ -1,5 +1,6 @@
 //! What a node makes of a packet.
-ghost use Rattle.std.specs.Prelude.{[], false, true};
+ghost use Rattle.std.specs.Prelude.{[], ◌++◌, false, true};
+ghost use Rattle.calvin_store.specs.Points.{warm_grows};
 ghost use Rattle.calvin_sched.specs.Scheduling.{turn_at};
 ghost use Rattle.calvin_sched.specs.Steps as steps;
 ghost use Rattle.calvin_node_packets.specs.declared.packet.Content.TheVariants.{Warm};
@@ -21,13 +22,13 @@ impl<A: App, L: Locks + Drop, S: Rows<A::Row> + Drop> Node<A, L, S> {
     /// is no news, with `Known` for a vote or a batch that is known, with `NoBatch` where the batch that is asked for isn't
     /// held, with `NotAwaited` for rows that aren't awaited, with `NotServed` where rows are asked for that were not read
     /// here; else with `OutOfMemory` where a growth was refused or a batch can have no more owners, but for no news of a
-    /// greater promise, no rows that come, and no warming without a cold table.
+    /// greater promise, no rows that come, and no warming of keys of which none has a cold row.
     pub fn handle(
         &mut self,
         packet: &Packet<A::Args, A::Row, A::Reply>,
         outbox: &mut Outbox<A>,
     ) -> Result<(), Fault>
-        ensures did { NodeDid (content_grows self.old.config packet.now.content) result (handling.handle self.old.config packet.now self.old.state) self.old self.new outbox.old.packets outbox.new.packets }
+        ensures did { NodeDid (content_grows self.old.config packet.now.content self.old.state) result (handling.handle self.old.config packet.now self.old.state) self.old self.new outbox.old.packets outbox.new.packets }
     {
         if !packet.to.is_for(self.layer.id()) {
             return Err(Fault::NotMine);
@@ -42,7 +43,7 @@ impl<A: App, L: Locks + Drop, S: Rows<A::Row> + Drop> Node<A, L, S> {
         content: &Content<A::Args, A::Row, A::Reply>,
         outbox: &mut Outbox<A>,
     ) -> Result<(), Fault>
-        ensures did { NodeDid (content_grows self.old.config content.now) result (handling.handle_content self.old.config from content.now self.old.state) self.old self.new outbox.old.packets outbox.new.packets }
+        ensures did { NodeDid (content_grows self.old.config content.now self.old.state) result (handling.handle_content self.old.config from content.now self.old.state) self.old self.new outbox.old.packets outbox.new.packets }
     {
         match content {
             Content::Synod(message) => self.layer.on_synod(from, message, outbox),
@@ -82,9 +83,9 @@ impl<A: App, L: Locks + Drop, S: Rows<A::Row> + Drop> Node<A, L, S> {
     }
 
     /// The rows of these keys come back from the cold table, where they are there (section 4). Refused with `OutOfMemory` where
-    /// there is such a table and a growth was refused.
+    /// there is such a table, one of these keys has its row there, and a growth was refused.
     fn on_warm(&mut self, sets: &Sets) -> Result<(), Fault>
-        ensures did { NodeDid {Reply = A.Reply} self.old.config.cold result (handling.handle_content self.old.config self.old.state.id (Warm sets.now) self.old.state) self.old self.new [] [] }
+        ensures did { NodeDid {Reply = A.Reply} (warm_grows self.old.config.cold (sets.now.reads ++ sets.now.writes) self.old.state.scheduler.store) result (handling.handle_content self.old.config self.old.state.id (Warm sets.now) self.old.state) self.old self.new [] [] }
     {
         self.scheduler.due_is_undone();
         self.scheduler.warm(sets)

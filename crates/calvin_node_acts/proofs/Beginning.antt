@@ -1,6 +1,6 @@
 -- What a request that begins or is finished makes of a node.
-use Rattle.std.proofs.Common.{◌≡◌, ◌⊎◌, inl, inr, Bool, true, false, cond, List, [], ◌∷◌, ◌++◌, Option, Some, None, Result, Ok, Err, refl, sym, ap, subst, ◌∙◌}
-use Rattle.std.proofs.lemmas.Bool.{false≢true}
+use Rattle.std.proofs.Common.{◌≡◌, ℕ, ◌⊎◌, inl, inr, Bool, true, false, cond, ◌&&◌, List, [], ◌∷◌, ◌++◌, length, nat_lt, Option, Some, None, Result, Ok, Err, refl, sym, ap, subst, ◌∙◌, arith}
+use Rattle.std.proofs.lemmas.Bool.{false≢true, lt-ltb}
 use Rattle.std.specs.Prelude.{is_err, OnOk}
 use Rattle.calvin_types.specs.declared.fault.Fault.{Fault}
 use Rattle.calvin_types.specs.declared.fault.Fault.TheVariants.{OutOfMemory, NotReady}
@@ -16,7 +16,7 @@ use Rattle.calvin_order.specs.Configs.{Config}
 use Rattle.calvin_sched.specs.declared.phase.Phase.{Phase}
 use Rattle.calvin_sched.specs.declared.phase.Phase.TheVariants.{Waiting, Begun, Done}
 use Rattle.calvin_sched.specs.Keeping.{takes_effect}
-use Rattle.calvin_sched.specs.Scheduling.{Turn, Scheduling, turn_at, with_turn, reads_here, is_read_here}
+use Rattle.calvin_sched.specs.Scheduling.{Turn, Scheduling, turn_at, with_turn, reads_here, serves_others}
 use Rattle.calvin_sched.specs.Steps as sched
 use Rattle.calvin_node_packets.specs.declared.packet.Packet.{Packet}
 use Rattle.calvin_node_packets.specs.declared.packet.Address.TheVariants.{AtClient}
@@ -32,16 +32,21 @@ module _ {Args Row : Type 0} (here : Site) (q : Place) (s next : Scheduling Args
   requested (Refuses f) = given.request
   requested (Does s out) = out.request
 
+  abbrev told : Deed (Scheduling Args Row) (sched.Serving Args Row) → List ℕ
+  told (Refuses f) = given.others
+  told (Does s out) = out.others
+
   -- what begins at a place is what stands there
-  reads_given : (o : Option (Turn Args Row)) → sched.begin_at here q s o ≡ Does next given → is_read_here here o ≡ reads_here here given.request
-  reads_given None e = absurd (false≢true (ap takes_effect e))
-  reads_given (Some x) e = by_phase x.phase e
+  serves_given : (o : Option (Turn Args Row)) → sched.begin_at here q s o ≡ Does next given → serves_others here o ≡ (reads_here here given.request && nat_lt 0 (length given.others))
+  serves_given None e = absurd (false≢true (ap takes_effect e))
+  serves_given (Some x) e = by_phase x.phase e
     where
-      ready : (b : Bool) → cond b (Does (with_turn s q (sched.begun_turn here s.store.map x)) (sched.serving here (sched.begun_turn here s.store.map x))) (Refuses NotReady) ≡ Does next given → reads_here here x.request ≡ reads_here here given.request
-      ready true e = ap (λ d. reads_here here (requested d)) e
+      ready : (b : Bool) → cond b (Does (with_turn s q (sched.begun_turn here s.store.map x)) (sched.serving here (sched.begun_turn here s.store.map x))) (Refuses NotReady) ≡ Does next given
+          → serves_others here (Some x) ≡ (reads_here here given.request && nat_lt 0 (length given.others))
+      ready true e = ap (λ d. reads_here here (requested d) && nat_lt 0 (length (told d))) e
       ready false e = absurd (false≢true (ap takes_effect e))
 
-      by_phase : (phase : Phase) → sched.begin_by here q s x phase ≡ Does next given → reads_here here x.request ≡ reads_here here given.request
+      by_phase : (phase : Phase) → sched.begin_by here q s x phase ≡ Does next given → serves_others here (Some x) ≡ (reads_here here given.request && nat_lt 0 (length given.others))
       by_phase Waiting e = ready (sched.is_ready here s q x.request) e
       by_phase Begun e = absurd (false≢true (ap takes_effect e))
       by_phase Done e = absurd (false≢true (ap takes_effect e))
@@ -65,29 +70,37 @@ module _ {Args Row : Type 0} (Reply : Type 0) (c : Config) (x : NodeState Args R
   abbrev deed : Deed (Scheduling Args Row) (sched.Serving Args Row)
   deed = sched.begin (site_of c.partitions x) q x.scheduler
 
-  abbrev is_read : Bool
-  is_read = is_read_here (site_of c.partitions x) (turn_at x.scheduler q)
+  abbrev serves : Bool
+  serves = serves_others (site_of c.partitions x) (turn_at x.scheduler q)
 
-  pub not_begun : (f : Fault) → deed ≡ Refuses f → NodeDid is_read (Err f) (acting.begin c q x) (running c x) (running c x) sent sent
-  not_begun f is = subst (λ d. NodeDid is_read (Err f) (acting.begin_by c x q d) (running c x) (running c x) sent sent) (sym is) (refl, refl, refl)
+  -- rows go to nobody where no other partition runs it
+  to_nobody : (out : sched.Serving Args Row) (r : Bool) (ps : List ℕ) → cond (r && nat_lt 0 (length ps)) (to_each {Args = Args} {Row = Row} {Reply = Reply} x.id x.id.replica (Reads q out.rows) ps) [] ≡ cond r (to_each x.id x.id.replica (Reads q out.rows) ps) []
+  to_nobody out true [] = refl
+  to_nobody out true (p ∷ ps) = ap (λ b. cond b (to_each {Args = Args} {Row = Row} {Reply = Reply} x.id x.id.replica (Reads q out.rows) (p ∷ ps)) []) (lt-ltb 0 (length (p ∷ ps)) (omega arith))
+  to_nobody out false ps = refl
 
-  pub no_room : takes_effect deed ≡ true → is_read ≡ true → NodeDid is_read (Err OutOfMemory) (acting.begin c q x) (running c x) (running c x) sent sent
+  pub not_begun : (f : Fault) → deed ≡ Refuses f → NodeDid serves (Err f) (acting.begin c q x) (running c x) (running c x) sent sent
+  not_begun f is = subst (λ d. NodeDid serves (Err f) (acting.begin_by c x q d) (running c x) (running c x) sent sent) (sym is) (refl, refl, refl)
+
+  pub no_room : takes_effect deed ≡ true → serves ≡ true → NodeDid serves (Err OutOfMemory) (acting.begin c q x) (running c x) (running c x) sent sent
   no_room takes some = go deed takes
     where
-      go : (d : Deed (Scheduling Args Row) (sched.Serving Args Row)) → takes_effect d ≡ true → NodeDid is_read (Err OutOfMemory) (acting.begin_by c x q d) (running c x) (running c x) sent sent
+      go : (d : Deed (Scheduling Args Row) (sched.Serving Args Row)) → takes_effect d ≡ true → NodeDid serves (Err OutOfMemory) (acting.begin_by c x q d) (running c x) (running c x) sent sent
       go (Refuses f) takes = absurd (false≢true takes)
       go (Does s out) takes = (some, refl, refl, refl)
 
-  -- the rows are sent where a key is read here
-  pub begun : (out : sched.Serving Args Row) (s : Scheduling Args Row) → Did false (Ok out) deed x.scheduler s → (b : Bool) → is_read ≡ b → (all : List (Packet Args Row Reply)) → all ≡ sent ++ cond b (to_each x.id x.id.replica (Reads q out.rows) out.others) []
-      → NodeDid is_read (Ok tt) (acting.begin c q x) (running c x) (running c (with_steps x s x.pending)) sent all
+  -- the rows are sent where a key is read here and another partition runs the request
+  pub begun : (out : sched.Serving Args Row) (s : Scheduling Args Row) → Did false (Ok out) deed x.scheduler s → (b : Bool) → serves ≡ b → (all : List (Packet Args Row Reply)) → all ≡ sent ++ cond b (to_each x.id x.id.replica (Reads q out.rows) out.others) []
+      → NodeDid serves (Ok tt) (acting.begin c q x) (running c x) (running c (with_steps x s x.pending)) sent all
   begun out s did b read all is = go deed refl did
     where
-      go : (d : Deed (Scheduling Args Row) (sched.Serving Args Row)) → deed ≡ d → Did false (Ok out) d x.scheduler s → NodeDid is_read (Ok tt) (acting.begin_by c x q d) (running c x) (running c (with_steps x s x.pending)) sent all
+      go : (d : Deed (Scheduling Args Row) (sched.Serving Args Row)) → deed ≡ d → Did false (Ok out) d x.scheduler s → NodeDid serves (Ok tt) (acting.begin_by c x q d) (running c x) (running c (with_steps x s x.pending)) sent all
       go (Refuses f) e did = did
       go (Does next given) e did = (
         (λ i. running c (with_steps x (did.1 i) x.pending)),
-        is ∙ (λ i. sent ++ cond ((sym read ∙ reads_given (site_of c.partitions x) q x.scheduler next given (turn_at x.scheduler q) e) i) (to_each x.id x.id.replica (Reads q (did.0 i).rows) (did.0 i).others) []),
+        is
+            ∙ (λ i. sent ++ cond ((sym read ∙ serves_given (site_of c.partitions x) q x.scheduler next given (turn_at x.scheduler q) e) i) (to_each x.id x.id.replica (Reads q (did.0 i).rows) (did.0 i).others) [])
+            ∙ ap (λ ps. sent ++ ps) (to_nobody given (reads_here (site_of c.partitions x) given.request) given.others),
       )
 
 -- a job that was run is taken

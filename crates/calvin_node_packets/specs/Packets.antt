@@ -1,13 +1,13 @@
 -- What nodes send each other and clients (Thomson et al. 2012, section 3.1: batches; section 3.2: rows that are read;
 -- section 4: rows that are to be in memory. "Paxos Made Simple", section 2: the synod's messages).
-use Rattle.std.specs.Prelude.{ℕ, Bool, false, ◌&&◌, not, ◌==◌, List, [], ◌∷◌, map, Option, Some, None}
+use Rattle.std.specs.Prelude.{ℕ, Bool, true, false, ◌&&◌, not, ◌==◌, List, [], ◌∷◌, map, Option, Some, None}
 use Rattle.std.specs.List.{filter, range_with_len}
 use Rattle.calvin_types.specs.declared.place.NodeId.{NodeId}
 use Rattle.calvin_types.specs.declared.place.Slot.{Slot}
 use Rattle.calvin_types.specs.declared.txn.Txn.{Txn}
 use Rattle.calvin_types.specs.Participants.{site, has_local_key}
 use Rattle.calvin_lock.specs.Local.{local_sets}
-use Rattle.calvin_synod.specs.Cases.{Letters, Silent, ToOne, ToAll}
+use Rattle.calvin_synod.specs.Cases.{Letters, Silent, ToOne, ToAll, has_batch}
 use Rattle.calvin_order.specs.Merged.{Batch}
 use Rattle.calvin_node_packets.specs.declared.packet.Address.{Address}
 use Rattle.calvin_node_packets.specs.declared.packet.Address.TheVariants.{AtNode, AtClient}
@@ -39,6 +39,12 @@ module _ {Args : Type 0} where
   participants parts t = filter (λ p. has_local_key (site parts p) t) (range_with_len 0 parts)
 
 module _ {Args Row Reply : Type 0} where
+  -- a batch is told with it
+  abbrev pub tells_batch : Content Args Row Reply → Bool
+  tells_batch (Synod message) = has_batch message
+  tells_batch (Decided slot batch) = true
+  tells_batch _ = false
+
   -- each of these partitions of the own replica is to have the rows of its declared keys in memory
   abbrev pub warm_packets : ℕ → NodeId → Txn Args → List ℕ → List (Packet Args Row Reply)
   warm_packets parts me t ps = map (λ p. record { from = me; to = AtNode (record { replica = me.replica; partition = p }); content = Warm (local_sets (site parts p) t.sets) }) ps

@@ -1,6 +1,6 @@
 //! What nodes send each other and clients.
-ghost use Rattle.calvin_node_packets.specs.Packets.{is_for};
-ghost use Rattle.std.specs.Prelude.{◌≡◌, IfOk, IsOkUnless};
+ghost use Rattle.calvin_node_packets.specs.Packets.{is_for, tells_batch};
+ghost use Rattle.std.specs.Prelude.{◌≡◌, false, IfOk, IsOk, IsOkUnless};
 
 use calvin_app::{Answer, View};
 use calvin_synod::Message;
@@ -49,10 +49,12 @@ pub enum Content<Args, Row, Reply> {
 }
 
 impl<Args: Copy, Row: Copy, Reply: Copy> Content<Args, Row, Reply> {
-    /// A copy, whose batch shares the memory. Refused with `OutOfMemory` where the batch can have no more owners.
+    /// A copy, whose batch, if it has one, shares the memory. Refused with `OutOfMemory` where the batch can have no more
+    /// owners.
     pub fn copy(&self) -> Result<Content<Args, Row, Reply>, Fault>
         ensures ok { IfOk result (λ c. c ≡ self.now) }
         ensures only { IsOkUnless result Fault.OutOfMemory }
+        ensures succeeds { tells_batch self.now ≡ false → IsOk result }
     {
         Ok(match self {
             Content::Synod(message) => Content::Synod(message.copy()?),

@@ -220,7 +220,8 @@ fn deliver_again<L: Locks + Drop>(
     }
 }
 
-/// Each node restarts, and is handed all that it was sent in its former life, which is packets of every kind.
+/// Each node restarts, and is handed all that it was sent in its former life, which is packets of every kind, also what others
+/// answered to those that were handed out again before.
 #[test]
 fn former_packets_again(rt: HostRuntime) -> Result<(), Fail> {
     let mut nodes: Nodes<QueueLocks> = up_to_epoch_two(&rt, rt.alloc())?;
@@ -233,8 +234,8 @@ fn former_packets_again(rt: HostRuntime) -> Result<(), Fail> {
     run(&rt, &mut nodes, &[Step::Merge(LATE), Step::Lock(LATE)]);
     run_late(&rt, &mut nodes, place(1, 0));
     let mut refused = [0; 5];
-    let last = nodes.packets().len();
     for (number, replica, partition) in [(0, 0, 0), (1, 0, 1), (2, 1, 0), (3, 1, 1)] {
+        let last = nodes.packets().len();
         run(&rt, &mut nodes, &[Step::Restart(number)]);
         let id = NodeId { replica, partition };
         deliver_again(&rt, &mut nodes, id, last, &mut refused);

@@ -2,6 +2,7 @@ pub mod Epochs
 pub mod Histories
 pub mod HoldingBack
 pub mod Joining
+pub mod KeptRoom
 pub mod NextEpochs
 pub mod Places
 pub mod Queues

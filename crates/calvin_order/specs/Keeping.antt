@@ -11,6 +11,7 @@
 --     can_submit_cold s      nor does that of one that is held back
 --     can_close s      closing needs no memory
 --     can_decide s e      being told that an epoch is decided needs no memory
+--     KeepsRoom before after      what needed no memory needs none still: there is no less room, and a batch that was ready is ready
 --     deed_of answer next      a test's answer as a deed
 --     IsHistory next undecided s      the next epoch, and how many requests of closed batches are undecided, as they are kept
 use Rattle.std.specs.Prelude.{◌≡◌, ℕ, ◌-◌, ◌<◌, ◌≤◌, ◌^◌, Bool, true, ◌&&◌, ◌||◌, List, [], ◌∷◌, nat_eq, nat_le, nat_lt, map, length, take, Option, Some, Result, Ok, Err, IsSome}
@@ -85,6 +86,13 @@ module _ {Args : Type 0} where
 
   abbrev pub can_decide : Sequenced Args → ℕ → Bool
   can_decide s e = is_decided s.sequencing e || (nat_lt 0 s.decided_room && nat_le (closed_len s.sequencing.closed e) s.queue_room)
+
+pub record KeepsRoom {Args : Type 0} (before after : Sequenced Args) : Type 0 where
+  pub queue : before.queue_room ≤ after.queue_room
+  pub held : before.held_room ≤ after.held_room
+  pub closed : before.closed_room ≤ after.closed_room
+  pub decided : before.decided_room ≤ after.decided_room
+  pub ready : before.is_ready ≡ true → after.is_ready ≡ true
 
 abbrev pub deed_of : {S Out : Type 0} → Result Out Fault → S → Deed S Out
 deed_of (Ok out) next = Does next out

@@ -3,7 +3,7 @@ ghost use Rattle.std.specs.Prelude.{◌≡◌, ℕ, ◌^◌, ◌<◌, ◌≤◌,
 ghost use Rattle.std.specs.Option.{option_copied, unwrap_or};
 ghost use Rattle.calvin_types.specs.declared.limits.TheConstants.{MOST_EPOCHS, MOST_REQUESTS, MOST_UNDECIDED};
 ghost use Rattle.calvin_types.specs.Deeds.{Does, Did};
-ghost use Rattle.calvin_order.specs.Keeping.{deed_of, can_submit, can_submit_cold, can_close, can_decide};
+ghost use Rattle.calvin_order.specs.Keeping.{deed_of, can_submit, can_submit_cold, can_close, can_decide, KeepsRoom};
 ghost use Rattle.calvin_order.specs.Sequencing as sequencing;
 
 use crate::held_back::{ColdRequest, join_ripe};
@@ -161,6 +161,7 @@ impl<Args: Copy> Sequencer<Args> {
     pub fn submit(&mut self, txn: Txn<Args>) -> Result<(), Fault>
         ensures did { Did (not (can_submit self.old)) result (sequencing.submit txn self.old.sequencing) self.old.sequencing self.new.sequencing }
         ensures delay { self.new.delay ≡ self.old.delay }
+        ensures room { OnErr result (KeepsRoom self.old self.new) }
     {
         self.check_submit(&txn)?;
         self.reserve_submit()?;
@@ -187,6 +188,7 @@ impl<Args: Copy> Sequencer<Args> {
     pub fn submit_cold(&mut self, txn: Txn<Args>) -> Result<(), Fault>
         ensures did { Did (not (can_submit_cold self.old)) result (sequencing.submit_cold self.old.delay txn self.old.sequencing) self.old.sequencing self.new.sequencing }
         ensures delay { self.new.delay ≡ self.old.delay }
+        ensures room { OnErr result (KeepsRoom self.old self.new) }
     {
         self.check_submit(&txn)?;
         self.reserve_submit_cold()?;
@@ -231,6 +233,7 @@ impl<Args: Copy> Sequencer<Args> {
     pub fn close(&mut self) -> Result<u64, Fault>
         ensures did { Did (not (can_close self.old)) result (sequencing.close self.old.delay self.old.sequencing) self.old.sequencing self.new.sequencing }
         ensures delay { self.new.delay ≡ self.old.delay }
+        ensures room { OnErr result (KeepsRoom self.old self.new) }
     {
         let epoch = self.epoch_to_close()?;
         self.reserve_close()?;
@@ -267,6 +270,7 @@ impl<Args: Copy> Sequencer<Args> {
     pub fn decided(&mut self, epoch: u64, batch: &Batch<Args>) -> Result<(), Fault>
         ensures did { Did (not (can_decide self.old epoch)) result (Does (sequencing.decide epoch batch.now self.old.sequencing) tt) self.old.sequencing self.new.sequencing }
         ensures delay { self.new.delay ≡ self.old.delay }
+        ensures room { OnErr result (KeepsRoom self.old self.new) }
     {
         if self.history.is_decided(epoch) {
             return Ok(());

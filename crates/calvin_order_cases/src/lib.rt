@@ -12,6 +12,10 @@ mod keys;
 #[cfg(test)]
 mod merge;
 #[cfg(test)]
+mod scarce_order;
+#[cfg(test)]
+mod scarce_types;
+#[cfg(test)]
 mod sequencer;
 #[cfg(test)]
 mod woven;

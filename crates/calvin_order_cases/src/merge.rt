@@ -7,7 +7,7 @@ use std::process::Abort;
 use std::test::Fail;
 
 /// A request that is told from others by its number.
-fn txn(number: u32) -> Txn<u32> {
+pub(crate) fn txn(number: u32) -> Txn<u32> {
     Txn {
         id: RequestId { client: 7, number },
         attempt: 1,

@@ -1,7 +1,9 @@
--- Where the nodes stand, by the least of their last epochs.
-use Rattle.std.proofs.Common.{◌≡◌, ℕ, zero, suc, ◌<◌, ◌≤◌, Bool, true, false, cond, List, [], ◌∷◌, refl, sym, ap, subst, ◌∙◌, map, arith, Option, Some, None}
+-- Where the nodes of some replicas stand, by the least of their last epochs.
+use Rattle.std.proofs.Common.{◌≡◌, ℕ, zero, suc, ◌<◌, ◌≤◌, Bool, true, false, not, cond, List, [], ◌∷◌, refl, sym, ap, subst, ◌∙◌, map, arith, Option, Some, None}
 use Rattle.std.specs.Prelude.{min, slice_get}
+use Rattle.std.specs.List.{filter}
 use Rattle.std.specs.FinMap.{empty, entries}
+use Rattle.std.proofs.lemmas.Bool.{false≢true}
 use Rattle.std.proofs.lemmas.Option.{none-some}
 use Rattle.calvin_types.specs.declared.place.NodeId.{NodeId}
 use Rattle.calvin_app.specs.Meaning.{Meaning, WritesWithin}
@@ -19,9 +21,10 @@ use Rattle.calvin_world.specs.SettledWorlds.{settled_world, SettledLeads}
 use Rattle.calvin_world.specs.Promises.{StandsAtEnd, IsNode, IsChosenUpTo}
 use Rattle.calvin_world.proofs.EveryEvent.{leads_both, at_first}
 use Rattle.calvin_world.proofs.SettledEvents.{settled_leads, settled_is_there}
+use Rattle.calvin_world.proofs.SettledLaws.{named_in_code}
 use Rattle.calvin_report.specs.declared.replies.Epochs.TheVariants.{UpTo}
 use Rattle.calvin_report.specs.Replies.{replied, epochs_upto, of_epochs, reply_lines}
-use Rattle.calvin_report.specs.Reports.{lesser, least_with, least, last_standing, least_standing}
+use Rattle.calvin_report.specs.Reports.{lesser, least_with, least, last_standing, least_standing, least_kept}
 use Rattle.calvin_report.proofs.Serially.{AllStand, one_text, run, stood_merged}
 
 -- ---- the least of some epochs
@@ -49,9 +52,35 @@ least_of_all : (all : List (Option ℕ)) (e : ℕ) → least all ≡ Some e → 
 least_of_all [] e is i b there = absurd (none-some e is)
 least_of_all (a ∷ others) e is i b there = least_below a others e is i b there
 
-some_first : {X : Type 0} (f : X → Option ℕ) (xs : List X) (e : ℕ) → least (map f xs) ≡ Some e → (x : X) × (slice_get xs 0 ≡ Some x)
-some_first f [] e is = absurd (none-some e is)
-some_first f (x ∷ xs) e is = (x, refl)
+-- ---- what a test leaves of a list
+
+left_at : {X : Type 0} (p : X → Bool) (xs : List X) (i : ℕ) (x : X) → slice_get xs i ≡ Some x → p x ≡ true → (j : ℕ) × (slice_get (filter p xs) j ≡ Some x)
+left_at p [] i x there is = absurd (none-some x there)
+left_at p (y ∷ xs) zero x there is = let same : y ≡ x = cc in subst (λ b. (j : ℕ) × (slice_get (cond b (y ∷ filter p xs) (filter p xs)) j ≡ Some x)) (sym (ap p same ∙ is)) (zero, there)
+left_at p (y ∷ xs) (suc i) x there is = go (p y) (left_at p xs i x there is)
+  where
+    go : (b : Bool) → (j : ℕ) × (slice_get (filter p xs) j ≡ Some x) → (j : ℕ) × (slice_get (cond b (y ∷ filter p xs) (filter p xs)) j ≡ Some x)
+    go true rest = (suc rest.0, rest.1)
+    go false rest = rest
+
+-- the first that is left
+first_left : {X : Type 0} (p : X → Bool) (f : X → Option ℕ) (xs : List X) (e : ℕ) → least (map f (filter p xs)) ≡ Some e → (i : ℕ) × (x : X) × (slice_get xs i ≡ Some x) × (p x ≡ true)
+first_left p f [] e is = absurd (none-some e is)
+first_left p f (y ∷ xs) e is = go (p y) refl is (first_left p f xs e)
+  where
+    go : (b : Bool) → p y ≡ b → least (map f (cond b (y ∷ filter p xs) (filter p xs))) ≡ Some e → (least (map f (filter p xs)) ≡ Some e → (i : ℕ) × (x : _) × (slice_get xs i ≡ Some x) × (p x ≡ true))
+        → (i : ℕ) × (x : _) × (slice_get (y ∷ xs) i ≡ Some x) × (p x ≡ true)
+    go true passes h rest = (zero, y, refl, passes)
+    go false passes h rest = let more = rest h in (suc more.0, more.1, more.2, more.3)
+
+-- where each passes, all are left
+all_left : {X : Type 0} (p : X → Bool) → ((x : X) → p x ≡ true) → (xs : List X) → filter p xs ≡ xs
+all_left p each [] = refl
+all_left p each (x ∷ xs) = ap (λ b. cond b (x ∷ filter p xs) (filter p xs)) (each x) ∙ ap (λ ys. x ∷ ys) (all_left p each xs)
+
+not_lost : (b : Bool) → not b ≡ true → b ≡ false
+not_lost true is = absurd (false≢true is)
+not_lost false is = refl
 
 -- the greatest number below a bound that passes does pass
 passes_there : (passes : ℕ → Bool) (n k : ℕ) → greatest_below passes n ≡ Some k → passes k ≡ true
@@ -67,12 +96,6 @@ stands_there : {Args Row : Type 0} (x : NodeState Args Row) (e : ℕ) → last_s
 stands_there x e is = passes_there (λ k. stands x.scheduler x.merged_epochs x.due (suc k)) x.merged_epochs e is
 
 module _ {Args Row Reply : Type 0} (m : Meaning Args Row Reply) (law : WritesWithin m) (c : Config) (events : List (Event Args)) (outcomes : List Outcome) (v : WorldState Args Row Reply) (leads : SettledLeads m (opening c) events outcomes v) where
-  all_stand : (e : ℕ) → least_standing v ≡ Some e → AllStand m law c events outcomes v leads (suc e)
-  all_stand e is id x node =
-      let last = least_of_all (map last_standing v.nodes) e is (index_of v.config.partitions id) (last_standing x) (get_map last_standing v.nodes (index_of v.config.partitions id) x node.there) in
-      let low = last.1 in
-      (suc last.0, omega (arith, low), stands_there x last.0 last.2)
-
   -- each node of the list has a name
   its_name : (i : ℕ) (y : NodeState Args Row) → slice_get v.nodes i ≡ Some y → (id : NodeId) × IsNode v id y
   its_name = let was = settled_leads m c events outcomes v leads in subst (λ (u : WorldState Args Row Reply). (i : ℕ) (y : NodeState Args Row) → slice_get u.nodes i ≡ Some y → (id : NodeId) × IsNode u id y) (sym was.2) (named was.0 was.1)
@@ -83,27 +106,62 @@ module _ {Args Row Reply : Type 0} (m : Meaning Args Row Reply) (law : WritesWit
           let at = (leads_both m law (opening c) (at_first m law c) events outcomes w h).kept.placed i x.0 x.1 in
           (x.0.id, record { replica = at.1; partition = at.2; there = subst (λ j. slice_get (settled_world w).nodes j ≡ Some y) at.0 there })
 
-  -- what stands to the last epoch at whose end all stand is the serial run
+  -- ---- of the replicas that aren't lost
+
+  module _ (lost : ℕ → Bool) where
+    abbrev kept_nodes : List (NodeState Args Row)
+    kept_nodes = filter (λ x. not (lost x.id.replica)) v.nodes
+
+    all_stand : (e : ℕ) → least_kept lost v ≡ Some e → AllStand m law c events outcomes v leads lost (suc e)
+    all_stand e is = record {
+      stand = λ id x node kept.
+          let named = named_in_code m law c events outcomes v leads id x node in
+          let left = left_at (λ (y : NodeState Args Row). not (lost y.id.replica)) v.nodes (index_of v.config.partitions id) x node.there (ap (λ (n : NodeId). not (lost n.replica)) named ∙ ap not kept) in
+          let last = least_of_all (map last_standing (kept_nodes)) e is left.0 (last_standing x) (get_map last_standing (kept_nodes) left.0 x left.1) in
+          let low = last.1 in
+          (suc last.0, omega (arith, low), stands_there x last.0 last.2);
+      other = λ r less.
+          let first = first_left (λ (y : NodeState Args Row). not (lost y.id.replica)) last_standing v.nodes e is in
+          let name = its_name first.0 first.1 first.2 in
+          let named = named_in_code m law c events outcomes v leads name.0 first.1 name.1 in
+          (name.0.replica, name.1.replica, ap (λ (n : NodeId). lost n.replica) (sym named) ∙ not_lost (lost first.1.id.replica) first.3);
+    }
+
+    -- what stands to the last epoch at whose end all of them stand is the serial run
+    pub kept_text : (B : Assignment Args) → IsChosenUpTo v B (epochs_upto (least_kept lost v)) → (show : Reply → List ℕ)
+        → reply_lines show (of_epochs (UpTo (least_kept lost v)) (entries (replied v.packets))) ≡ lines show (order v.config B (epochs_upto (least_kept lost v))) (serial m (map (λ e. e.1) (order v.config B (epochs_upto (least_kept lost v)))) empty).1
+    kept_text B chosen show = one_text m law c events outcomes v leads (epochs_upto (least_kept lost v)) B chosen lost (standing (least_kept lost v) refl) show
+      where
+        standing : (o : Option ℕ) → least_kept lost v ≡ o → 0 < epochs_upto (least_kept lost v) → AllStand m law c events outcomes v leads lost (epochs_upto (least_kept lost v))
+        standing None is some = absurd (let none : epochs_upto (least_kept lost v) ≡ 0 = ap epochs_upto is in omega (arith, some, none))
+        standing (Some e) is some = subst (AllStand m law c events outcomes v leads lost) (sym (ap epochs_upto is)) (all_stand e is)
+
+    -- and is chosen
+    pub kept_chosen : (B : Assignment Args) × IsChosenUpTo v B (epochs_upto (least_kept lost v))
+    kept_chosen = let all = (run m law c events outcomes v leads).settled in (all.0, λ slot less group. all.2.chosen slot (bound (least_kept lost v) refl slot.epoch less) group)
+      where
+        bound : (o : Option ℕ) → least_kept lost v ≡ o → (k : ℕ) → k < epochs_upto (least_kept lost v) → k < (run m law c events outcomes v leads).settled.1
+        bound None is k less = absurd (let none : epochs_upto (least_kept lost v) ≡ 0 = ap epochs_upto is in omega (arith, less, none))
+        bound (Some e) is k less =
+            let first = first_left (λ (y : NodeState Args Row). not (lost y.id.replica)) last_standing v.nodes e is in
+            let name = its_name first.0 first.1 first.2 in
+            let named = named_in_code m law c events outcomes v leads name.0 first.1 name.1 in
+            let stands = (all_stand e is).stand name.0 first.1 name.1 (ap (λ (n : NodeId). lost n.replica) (sym named) ∙ not_lost (lost first.1.id.replica) first.3) in
+            let merged = stood_merged first.1 stands.0 stands.2 in
+            let settled = (run m law c events outcomes v leads).settled.2.merges name.0 first.1 name.1 in
+            let upto = stands.1 in
+            let number : epochs_upto (least_kept lost v) ≡ suc e = ap epochs_upto is in
+            omega (arith, less, merged, settled, upto, number)
+
+  -- ---- of all
+
+  none_lost : least_kept (λ r. false) v ≡ least_standing v
+  none_lost = ap (λ (xs : List (NodeState Args Row)). least (map last_standing xs)) (all_left (λ (x : NodeState Args Row). true) (λ x. refl) v.nodes)
+
   pub finished_text : (B : Assignment Args) → IsChosenUpTo v B (epochs_upto (least_standing v)) → (show : Reply → List ℕ)
       → reply_lines show (of_epochs (UpTo (least_standing v)) (entries (replied v.packets))) ≡ lines show (order v.config B (epochs_upto (least_standing v))) (serial m (map (λ e. e.1) (order v.config B (epochs_upto (least_standing v)))) empty).1
-  finished_text B chosen show = one_text m law c events outcomes v leads (epochs_upto (least_standing v)) B chosen (standing (least_standing v) refl) show
-    where
-      standing : (o : Option ℕ) → least_standing v ≡ o → 0 < epochs_upto (least_standing v) → AllStand m law c events outcomes v leads (epochs_upto (least_standing v))
-      standing None is some = absurd (let none : epochs_upto (least_standing v) ≡ 0 = ap epochs_upto is in omega (arith, some, none))
-      standing (Some e) is some = subst (AllStand m law c events outcomes v leads) (sym (ap epochs_upto is)) (all_stand e is)
+  finished_text = subst (λ o. (B : Assignment Args) → IsChosenUpTo v B (epochs_upto o) → (show : Reply → List ℕ)
+      → reply_lines show (of_epochs (UpTo o) (entries (replied v.packets))) ≡ lines show (order v.config B (epochs_upto o)) (serial m (map (λ e. e.1) (order v.config B (epochs_upto o))) empty).1) none_lost (kept_text (λ r. false))
 
-  -- and is chosen
   pub finished_chosen : (B : Assignment Args) × IsChosenUpTo v B (epochs_upto (least_standing v))
-  finished_chosen = let all = (run m law c events outcomes v leads).settled in (all.0, λ slot less group. all.2.chosen slot (bound (least_standing v) refl slot.epoch less) group)
-    where
-      bound : (o : Option ℕ) → least_standing v ≡ o → (k : ℕ) → k < epochs_upto (least_standing v) → k < (run m law c events outcomes v leads).settled.1
-      bound None is k less = absurd (let none : epochs_upto (least_standing v) ≡ 0 = ap epochs_upto is in omega (arith, less, none))
-      bound (Some e) is k less =
-          let first = some_first last_standing v.nodes e is in
-          let named = its_name 0 first.0 first.1 in
-          let stands = all_stand e is named.0 first.0 named.1 in
-          let merged = stood_merged first.0 stands.0 stands.2 in
-          let settled = (run m law c events outcomes v leads).settled.2.merges named.0 first.0 named.1 in
-          let upto = stands.1 in
-          let number : epochs_upto (least_standing v) ≡ suc e = ap epochs_upto is in
-          omega (arith, less, merged, settled, upto, number)
+  finished_chosen = subst (λ o. (B : Assignment Args) × IsChosenUpTo v B (epochs_upto o)) none_lost (kept_chosen (λ r. false))

@@ -11,7 +11,7 @@ lesser_of_three (Some a) None c = refl
 lesser_of_three (Some a) (Some b) None = refl
 lesser_of_three (Some a) (Some b) (Some c) = ap Some (omega arith)
 
-one_more : (a : Option ℕ) (others : List (Option ℕ)) (b : Option ℕ) → least_with a (others ++ b ∷ []) ≡ lesser (least_with a others) b
+pub one_more : (a : Option ℕ) (others : List (Option ℕ)) (b : Option ℕ) → least_with a (others ++ b ∷ []) ≡ lesser (least_with a others) b
 one_more a [] b = refl
 one_more a (c ∷ others) b = ap (lesser a) (one_more c others b) ∙ lesser_of_three a (least_with c others) b
 

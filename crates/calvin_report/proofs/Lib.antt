@@ -6,3 +6,4 @@ pub mod Sent
 pub mod Keyed
 pub mod Serially
 pub mod AllStanding
+pub mod Kept

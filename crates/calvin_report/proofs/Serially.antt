@@ -1,4 +1,4 @@
--- The replies that were sent at the places of epochs at whose ends every node stands are those of the serial run.
+-- The replies that were sent at the places of epochs at whose ends every node of a replica stands are those of the serial run.
 use Rattle.std.proofs.Common.{◌≡◌, ℕ, suc, ◌-◌, ◌<◌, ◌≤◌, Bool, true, false, cond, List, ◌++◌, refl, sym, ap, subst, ◌∙◌, map, arith, Option, Some, None}
 use Rattle.std.specs.Prelude.{nat_lt}
 use Rattle.std.specs.List.{Contains}
@@ -57,9 +57,10 @@ module _ {Args Row Reply : Type 0} (m : Meaning Args Row Reply) (law : WritesWit
   keyed : (slot : Slot) (batch : Batch Args) → Chosen v slot batch → (t : Txn Args) → Contains batch t → has_key t.sets ≡ true
   keyed slot batch chosen t there = let was = submitted_in_code m law c events outcomes v leads in sometime_keyed m slot t (opening c) events outcomes was.0 was.1 (was.3 slot batch chosen t there)
 
-  -- each node stands at the end of the first n epochs, or of more
-  abbrev pub AllStand : ℕ → Type 0
-  AllStand n = (id : NodeId) (x : NodeState Args Row) → IsNode v id x → (f : ℕ) × (n ≤ f) × StandsAtEnd x f
+  -- each node whose replica isn't among the lost ones stands at the end of the first n epochs, or of more; and there is such a replica
+  pub record AllStand (lost : ℕ → Bool) (n : ℕ) : Type 0 where
+    pub stand : (id : NodeId) (x : NodeState Args Row) → IsNode v id x → lost id.replica ≡ false → (f : ℕ) × (n ≤ f) × StandsAtEnd x f
+    pub other : (r : ℕ) → r < v.config.replicas → (k : ℕ) × (k < v.config.replicas) × (lost k ≡ false)
 
   module _ (n : ℕ) (B : Assignment Args) (chosen : IsChosenUpTo v B n) where
     -- each assignment of what is chosen has the same order so far
@@ -82,9 +83,10 @@ module _ {Args Row Reply : Type 0} (m : Meaning Args Row Reply) (law : WritesWit
         let sent = run.sent id x node f stands all.0 later q t there active in
         (sent.0, sent.1, t.attempt, sent.3, sent.4)
 
-    -- each of its requests is run by some node
-    run_by : (q : Place) (t : Txn Args) → StandsAt (order v.config B n) q t → (id : NodeId) × (x : NodeState Args Row) × IsNode v id x × (is_active (site v.config.partitions id.partition) t ≡ true)
-    run_by q t at =
+    -- each of its requests is run by some node of a replica that isn't lost
+    run_by : (lost : ℕ → Bool) → AllStand lost n → (q : Place) (t : Txn Args) → StandsAt (order v.config B n) q t
+        → (id : NodeId) × (x : NodeState Args Row) × IsNode v id x × (is_active (site v.config.partitions id.partition) t ≡ true) × (lost id.replica ≡ false)
+    run_by lost all q t at =
         let below = (stretch_stands v.config B 0 n q t at).1 in
         let early : q.epoch < n = omega (arith, below) in
         let found = stands_batch v.config B 0 n q t at in
@@ -93,14 +95,15 @@ module _ {Args Row Reply : Type 0} (m : Meaning Args Row Reply) (law : WritesWit
         let is_chosen = chosen slot early less in
         let voter = majority_member is_chosen.2 in
         let runs = runs_somewhere v.config.partitions t (omega (arith, less)) (keyed slot (B slot) is_chosen t found.2) in
-        let node = there_in_code m law c events outcomes v leads (record { replica = voter.0; partition = runs.0 }) (is_chosen.2.within voter.0 voter.1) runs.1 in
-        (record { replica = voter.0; partition = runs.0 }, node.0, node.1, runs.2)
+        let kept = all.other voter.0 (is_chosen.2.within voter.0 voter.1) in
+        let node = there_in_code m law c events outcomes v leads (record { replica = kept.0; partition = runs.0 }) kept.1 runs.1 in
+        (record { replica = kept.0; partition = runs.0 }, node.0, node.1, runs.2, kept.2)
 
     -- each of its requests was replied to
-    answered : AllStand n → (q : Place) (t : Txn Args) → StandsAt (order v.config B n) q t → (p : Packet Args Row Reply) × Contains v.packets p × (attempt : ℕ) × (answer : Answer Reply) × (p.content ≡ Replies q t.id attempt answer)
-    answered stand q t at =
-        let by = run_by q t at in
-        let stands = stand by.0 by.1 by.2 in
+    answered : (lost : ℕ → Bool) → AllStand lost n → (q : Place) (t : Txn Args) → StandsAt (order v.config B n) q t → (p : Packet Args Row Reply) × Contains v.packets p × (attempt : ℕ) × (answer : Answer Reply) × (p.content ≡ Replies q t.id attempt answer)
+    answered lost all q t at =
+        let by = run_by lost all q t at in
+        let stands = all.stand by.0 by.1 by.2 by.4 in
         replied_by by.0 by.1 by.2 stands.0 stands.1 stands.2 q t at by.3
 
     -- each reply there is the one of the serial run
@@ -127,12 +130,12 @@ module _ {Args Row Reply : Type 0} (m : Meaning Args Row Reply) (law : WritesWit
         find-where_key place_cmp (λ p. nat_lt p.epoch n) q (λ p same. ap (λ (r : Place). nat_lt r.epoch n) (sym (place_exact q p same))) (entries (replied v.packets))
         ∙ ap (λ o. cond (nat_lt q.epoch n) o None) (find_entries (told v.packets) q)
 
-    alike : (0 < n → AllStand n) → (q : Place) → find place_cmp q sent_there ≡ find place_cmp q serially
-    alike stand q = found_there q ∙ go (nat_lt q.epoch n) refl
+    alike : (lost : ℕ → Bool) → (0 < n → AllStand lost n) → (q : Place) → find place_cmp q sent_there ≡ find place_cmp q serially
+    alike lost all q = found_there q ∙ go (nat_lt q.epoch n) refl
       where
         at_none : q.epoch < n → find place_cmp q (told v.packets) ≡ None → find place_cmp q (told_of (order v.config B n) (serial m (map (λ e. e.1) (order v.config B n)) empty).1) ≡ None
         at_none early none = told_none (order v.config B n) _ q (λ t at.
-            let by = answered (stand (omega (arith, early))) q t at in
+            let by = answered lost (all (omega (arith, early))) q t at in
             none_sent v.packets q none by.0 by.1 t.id by.2 by.3 by.4)
 
         at_some : q.epoch < n → (x : RequestId × Answer Reply) → find place_cmp q (told v.packets) ≡ Some x → find place_cmp q (told_of (order v.config B n) (serial m (map (λ e. e.1) (order v.config B n)) empty).1) ≡ Some x
@@ -153,10 +156,10 @@ module _ {Args Row Reply : Type 0} (m : Meaning Args Row Reply) (law : WritesWit
             absurd (omega (arith, below, late))))
 
     -- so they are one
-    pub one_text : (0 < n → AllStand n) → (show : Reply → List ℕ) → reply_lines show (first_epochs n (entries (replied v.packets))) ≡ lines show (order v.config B n) (serial m (map (λ e. e.1) (order v.config B n)) empty).1
-    one_text stand show =
+    pub one_text : (lost : ℕ → Bool) → (0 < n → AllStand lost n) → (show : Reply → List ℕ) → reply_lines show (first_epochs n (entries (replied v.packets))) ≡ lines show (order v.config B n) (serial m (map (λ e. e.1) (order v.config B n)) empty).1
+    one_text lost all show =
         ap (reply_lines show) (same_entries place_cmp place_total place_exact sent_there serially
         (is_sorted-where_key place_cmp (λ p. nat_lt p.epoch n) (entries (replied v.packets)) (entries_sorted (replied v.packets)))
         (told_sorted (order v.config B n) _ (order_rises v.config B n))
-        (alike stand))
+        (alike lost all))
         ∙ lines_told show (order v.config B n) _

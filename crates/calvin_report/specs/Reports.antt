@@ -7,8 +7,10 @@
 --     node_lines w      a line for each node, replica by replica
 --     lesser a b, least epochs      the lesser of two epochs, and the least of several; none where one of them is none
 --     least_standing w      the least of the epochs at whose ends the nodes stand
-use Rattle.std.specs.Prelude.{ℕ, suc, List, [], ◌∷◌, ◌++◌, map, min, codes, decimal, Option, Some, None}
-use Rattle.std.specs.List.{flat_map}
+--     is_lost lost r      a replica is the one whose packets are lost, if there is one
+--     least_kept lost w      the least of the epochs at whose ends the nodes of the other replicas stand
+use Rattle.std.specs.Prelude.{ℕ, suc, Bool, false, not, nat_eq, List, [], ◌∷◌, ◌++◌, map, min, codes, decimal, Option, Some, None}
+use Rattle.std.specs.List.{flat_map, filter}
 use Rattle.std.specs.FinMap.{len}
 use Rattle.calvin_types.specs.declared.place.NodeId.{NodeId}
 use Rattle.calvin_types.specs.Faults.{number_of}
@@ -53,6 +55,11 @@ abbrev pub least : List (Option ℕ) → Option ℕ
 least [] = None
 least (a ∷ others) = least_with a others
 
+-- the replica of this number is the one whose packets are lost, if there is one
+abbrev pub is_lost : Option ℕ → ℕ → Bool
+is_lost None r = false
+is_lost (Some lost) r = nat_eq lost r
+
 module _ {Args Row : Type 0} where
   abbrev pub last_standing : NodeState Args Row → Option ℕ
   last_standing x = stands_at x.scheduler x.merged_epochs x.due
@@ -68,3 +75,7 @@ module _ {Args Row Reply : Type 0} where
   -- the least of the last epochs at whose ends the nodes stand; none where one stands nowhere
   abbrev pub least_standing : WorldState Args Row Reply → Option ℕ
   least_standing w = least (map last_standing w.nodes)
+
+  -- the same of the nodes whose replicas aren't among the lost ones; none also where there are no others
+  abbrev pub least_kept : (ℕ → Bool) → WorldState Args Row Reply → Option ℕ
+  least_kept lost w = least (map last_standing (filter (λ x. not (lost x.id.replica)) w.nodes))

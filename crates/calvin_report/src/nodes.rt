@@ -1,6 +1,8 @@
 //! The lines of nodes.
-ghost use Rattle.std.specs.Prelude.{◌≡◌, ◌++◌, OnOk};
-ghost use Rattle.calvin_report.specs.Reports.{epoch_text, node_line, line_of, node_lines, lesser, least_standing};
+ghost use Rattle.std.specs.Prelude.{◌≡◌, ◌++◌, ◌∷◌, [], ℕ, List, Option, OnOk};
+ghost use Rattle.calvin_report.specs.Reports.{epoch_text, node_line, line_of, node_lines, lesser, least, least_standing, is_lost, least_kept};
+ghost use Rattle.calvin_report.specs.SoFar.{so_far, kept_epochs};
+ghost use Rattle.calvin_node_acts.specs.NodeStates.{NodeState};
 
 use calvin_app::App;
 use calvin_lock::Locks;
@@ -83,4 +85,74 @@ pub fn finished<A: App + Drop, L: Locks + Drop, S: Rows<A::Row> + Drop>(
         least = lesser(least, node.stands_at());
     }
     least
+}
+
+/// Whether a replica is the one whose packets are lost, if there is one.
+pub fn is_lost(lost: Option<u8>, replica: u8) -> bool
+    ensures { result ≡ is_lost lost replica }
+{
+    match lost {
+        Some(lost) => lost == replica,
+        None => false,
+    }
+}
+
+/// The least of the last epochs at whose ends the nodes stand that were looked at so far.
+#[derive(Clone, Copy)]
+enum Least {
+    /// No node was.
+    NoNode,
+    /// The least of theirs; none where one stands nowhere.
+    Of(Option<u64>),
+}
+
+impl Least {
+    /// One more node was looked at.
+    fn with(self, last: Option<u64>) -> Least
+        ensures { (epochs : List (Option ℕ)) → self ≡ so_far epochs → result ≡ so_far (epochs ++ last ∷ []) }
+    {
+        match self {
+            Least::NoNode => Least::Of(last),
+            Least::Of(least) => Least::Of(lesser(least, last)),
+        }
+    }
+
+    /// The epoch, none where no node was looked at.
+    fn epoch(self) -> Option<u64>
+        ensures { (epochs : List (Option ℕ)) → self ≡ so_far epochs → result ≡ least epochs }
+    {
+        match self {
+            Least::NoNode => None,
+            Least::Of(least) => least,
+        }
+    }
+}
+
+/// The least after one more node.
+fn with_node<A: App, L: Locks + Drop, S: Rows<A::Row> + Drop>(
+    least: Least,
+    node: &Node<A, L, S>,
+    lost: Option<u8>,
+) -> Least
+    ensures { (nodes : List (NodeState A.Args A.Row)) → least ≡ so_far (kept_epochs lost nodes) → result ≡ so_far (kept_epochs lost (nodes ++ node.now.state ∷ [])) }
+{
+    if is_lost(lost, node.id().replica) {
+        return least;
+    }
+    least.with(node.stands_at())
+}
+
+/// The least of the last epochs at whose ends the nodes stand whose replica isn't the lost one. There is none where one of them
+/// stands nowhere, and where there are no others.
+pub fn finished_but<A: App + Drop, L: Locks + Drop, S: Rows<A::Row> + Drop>(
+    world: &World<A, L, S>,
+    lost: Option<u8>,
+) -> Option<u64>
+    ensures { result ≡ least_kept (is_lost lost) world.now }
+{
+    let mut least = Least::NoNode;
+    for node in world.nodes() {
+        least = with_node(least, node, lost);
+    }
+    least.epoch()
 }

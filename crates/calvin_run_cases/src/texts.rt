@@ -1,15 +1,11 @@
 //! What is told of scripts.
 use crate::scripts::{REPLICAS, same, tells};
+use crate::worked::{MOVE, MOVED, SETTLE, SETTLED};
 use calvin_node::Act;
 use calvin_run::Ran;
 use calvin_types::Key;
 use calvin_world::Event;
 use std::test::Fail;
-
-const MOVE: &str =
-    r#"{"partitions":2,"app":"kv","epochs":[[{"group":0,"txns":[{"client":7,"number":1,"op":["put",1,10]},{"client":7,"number":2,"op":["move",1,2,4]}]}]]}"#;
-
-const MOVED: &str = "0.0 7:1 done\n0.1 7:2 done\nfinished 0\n";
 
 fn key(id: u64) -> Key {
     Key { table: 0, id }
@@ -84,20 +80,7 @@ fn woven_order(rt: HostRuntime) -> Result<(), Fail> {
 
 #[test]
 fn order_and_settle(rt: HostRuntime) -> Result<(), Fail> {
-    let script = r#"{"partitions":1,"app":"stock","epochs":[[{"group":0,"txns":[
-        {"client":7,"number":1,"op":["additem",1,2,250]},
-        {"client":7,"number":2,"op":["additem",2,3,100]},
-        {"client":7,"number":3,"op":["open",9]},
-        {"client":7,"number":4,"op":["payin",9,1000000000000000]},
-        {"client":7,"number":5,"op":["payin",9,1]},
-        {"client":7,"number":6,"op":["order",9,50,[[1,2],[2,4]]]},
-        {"client":7,"number":7,"op":["order",9,50,[[1,2],[2,3]]]},
-        {"client":7,"number":8,"op":["settle",9],"reads":[[1,9],[3,50]],"writes":[[1,9],[3,50]]},
-        {"client":7,"number":9,"op":["balance",9]},
-        {"client":7,"number":10,"op":["settle",9],"reads":[[1,9],[3,50]],"writes":[[1,9],[3,50]]}]}]]}"#;
-    let text =
-        "0.0 7:1 done\n0.1 7:2 done\n0.2 7:3 done\n0.3 7:4 done\n0.4 7:5 limit\n0.5 7:6 short\n0.6 7:7 ordered 800\n0.7 7:8 settled 800\n0.8 7:9 cents 999999999999200\n0.9 7:10 nothingopen\nfinished 0\n";
-    tells(rt, rt.alloc(), script, 4, text)?;
+    tells(rt, rt.alloc(), SETTLE, 4, SETTLED)?;
     Ok(())
 }
 

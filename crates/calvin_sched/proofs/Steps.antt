@@ -1,7 +1,9 @@
 -- The steps of a scheduler in code, by what it keeps.
-use Rattle.std.proofs.Common.{◌≡◌, ℕ, ◌-◌, ◌<◌, ◌≤◌, true, false, cond, length, Result, Ok, Err, IsOk, OnOk, Option, Some, None, refl, sym, ap, subst, ◌∙◌, arith}
+use Rattle.std.proofs.Common.{◌≡◌, ℕ, ◌-◌, ◌<◌, ◌≤◌, true, false, cond, length, Result, Ok, Err, IsOk, OnOk, IfErr, Option, Some, None, refl, sym, ap, subst, ◌∙◌, arith}
 use Rattle.std.proofs.lemmas.Bool.{false≢true}
 use Rattle.std.specs.FinMap.{FinMap, get, insert}
+use Rattle.calvin_types.specs.declared.fault.Fault.{Fault}
+use Rattle.calvin_types.specs.declared.fault.Fault.TheVariants.{OutOfMemory}
 use Rattle.calvin_types.specs.declared.place.Place.{Place}
 use Rattle.calvin_types.specs.Participants.{Site, is_active}
 use Rattle.calvin_types.specs.Places.{place_cmp}
@@ -76,3 +78,8 @@ if_ok (Err e) h x = absurd (cc)
 pub awaited_turn : {Args Row : Type 0} (here : Site) (o : Option (Turn Args Row)) (from : ℕ) → awaits_at here o from ≡ true → (x : Turn Args Row) × (o ≡ Some x) × (awaits here x from ≡ true)
 awaited_turn here None from h = absurd (false≢true h)
 awaited_turn here (Some x) from h = (x, refl, h)
+
+-- what is refused only where there is less room isn't refused where there is as much
+pub not_refused : (r : Result (Unit {0}) Fault) (room wanted : ℕ) → IfErr r (λ fault. (fault ≡ OutOfMemory) × (room < wanted)) → wanted ≤ room → IsOk r
+not_refused (Ok out) room wanted refused fits = refl
+not_refused (Err fault) room wanted refused fits = absurd (let short = refused.1 in omega (arith, short, fits))

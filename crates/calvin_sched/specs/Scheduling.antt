@@ -1,6 +1,6 @@
 -- The data of one partition's scheduler (Thomson et al. 2012, section 3.2: requests are admitted in the global
 -- order, lock what they use, read what is stored here, exchange what they read, run, and write what is stored here).
-use Rattle.std.specs.Prelude.{ℕ, Bool, true, false, ◌&&◌, ◌||◌, not, ◌==◌, if◌then◌else◌, List, [], ◌∷◌, Option, Some, None, is_some}
+use Rattle.std.specs.Prelude.{ℕ, nat_lt, Bool, true, false, ◌&&◌, ◌||◌, not, ◌==◌, if◌then◌else◌, List, [], ◌∷◌, length, Option, Some, None, is_some}
 use Rattle.std.specs.Option.{unwrap_or}
 use Rattle.std.specs.Ordering.{nat_cmp, is_lt}
 use Rattle.std.specs.List.{filter, list_any, list_all, range_with_len}
@@ -100,6 +100,11 @@ module _ {Args Row : Type 0} where
   abbrev pub is_read_here : Site → Option (Turn Args Row) → Bool
   is_read_here here None = false
   is_read_here here (Some x) = reads_here here x.request
+
+  -- and another partition that runs it waits for the row
+  abbrev pub serves_others : Site → Option (Turn Args Row) → Bool
+  serves_others here None = false
+  serves_others here (Some x) = reads_here here x.request && nat_lt 0 (length (other_active here x.request))
 
   -- a request that waits for its locks
   abbrev pub new_turn : Txn Args → Turn Args Row

@@ -46,6 +46,7 @@ impl<A: App, L: Locks + Drop, S: Rows<A::Row> + Drop> Scheduler<A, L, S> {
         requires { (j : Job A.Args A.Row) × (steps.job self.old.here place self.old.scheduling ≡ Ok j) × (writes.now ≡ local_writes self.old.here (writes_on A.meaning j.txn j.view)) }
         ensures ok { OnOk result ((j : Job A.Args A.Row) → steps.job self.old.here place self.old.scheduling ≡ Ok j → self.new.scheduling ≡ steps.after_job A.meaning self.old.here j self.old.scheduling) }
         ensures err { OnErr result (self.new.scheduling ≡ self.old.scheduling) }
+        ensures room { OnErr result (self.old.room ≤ self.new.room) }
         ensures only { IsOkUnless result Fault.OutOfMemory }
         ensures succeeds { length writes.now ≤ self.old.room → IsOk result }
         ensures rest { self.new ≡ record self.old { scheduling = self.new.scheduling; room = self.new.room; due = self.new.due } }
@@ -63,7 +64,7 @@ impl<A: App, L: Locks + Drop, S: Rows<A::Row> + Drop> Scheduler<A, L, S> {
     /// the application's run and `finish` in one. Its answer is put in place of another one, and its name and its attempt
     /// are given. Refused with `NotReady` where the request has not begun or is done, with `ReadsMissing` where rows of another
     /// partition are still to come, else with `OutOfMemory` where more is written here than there is room for, and a growth was
-    /// refused: then nothing is said of the answer.
+    /// refused: then nothing is said of the answer. Where it is refused there is no less room.
     pub fn run(
         &mut self,
         place: Place,
@@ -74,6 +75,7 @@ impl<A: App, L: Locks + Drop, S: Rows<A::Row> + Drop> Scheduler<A, L, S> {
             × (answer.new ≡ answer_on A.meaning j.txn j.view) × (self.new.scheduling ≡ steps.after_job A.meaning self.old.here j self.old.scheduling)) }
         ensures err { OnErr result (self.new.scheduling ≡ self.old.scheduling) }
         ensures refused { IfErr result (IsNotRun A.meaning self.old.here self.old.room (steps.job self.old.here place self.old.scheduling)) }
+        ensures room { OnErr result (self.old.room ≤ self.new.room) }
         ensures rest { self.new ≡ record self.old { scheduling = self.new.scheduling; room = self.new.room; due = self.new.due } }
         ensures due { self.new.due ≡ left self.new.scheduling self.old.due }
     {

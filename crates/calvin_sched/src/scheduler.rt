@@ -288,12 +288,14 @@ impl<A: App, L: Locks + Drop, S: Rows<A::Row> + Drop> Scheduler<A, L, S> {
         Ok(())
     }
 
-    /// Room for the rows that a job writes here, so that `finish` takes no memory for it. Refused with `OutOfMemory`.
+    /// Room for the rows that a job writes here, so that `finish` takes no memory for it. Refused with `OutOfMemory` where
+    /// there is less room and a growth was refused.
     pub fn reserve_finish(&mut self, computed: &Computed<A>) -> Result<(), Fault>
         ensures ok { OnOk result (length (local_writes self.old.here computed.now.writes) ≤ self.new.room) }
         ensures rest { self.new ≡ record self.old { room = self.new.room } }
         ensures room { self.old.room ≤ self.new.room }
         ensures only { IsOkUnless result Fault.OutOfMemory }
+        ensures succeeds { length (local_writes self.old.here computed.now.writes) ≤ self.old.room → IsOk result }
     {
         let written = local_part::<A>(&computed.writes, &self.config, self.partition);
         self.rows.reserve(written.len())?;
@@ -303,10 +305,11 @@ impl<A: App, L: Locks + Drop, S: Rows<A::Row> + Drop> Scheduler<A, L, S> {
     /// Takes what came of a job: what it writes here is put into the rows, its locks are released, and its request is done.
     /// Answers what the request is told. Refused with `NotCollected` where no job is due at its place, with `StaleJob`
     /// where another one is, else with `OutOfMemory` where more is written here than there is room for, and a growth was
-    /// refused.
+    /// refused: then there is no less room.
     pub fn finish(&mut self, computed: &Computed<A>) -> Result<Answer<A::Reply>, Fault>
         ensures did { Finished A.meaning self.old.here self.old.room computed.now.job result self.old.scheduling self.new.scheduling }
         ensures rest { self.new ≡ record self.old { scheduling = self.new.scheduling; room = self.new.room; due = self.new.due } }
+        ensures room { OnErr result (self.old.room ≤ self.new.room) }
         ensures due { self.new.due ≡ left self.new.scheduling self.old.due }
     {
         self.check_due(&computed.job)?;
@@ -356,11 +359,12 @@ impl<A: App, L: Locks + Drop, S: Rows<A::Row> + Drop> Scheduler<A, L, S> {
     }
 
     /// Room for the places of these requests, so that `merged`, where it is told them next, takes no memory. Refused with
-    /// `OutOfMemory`.
+    /// `OutOfMemory` where there is less room and a growth was refused.
     pub fn reserve_merged(&mut self, entries: &[(Place, Txn<A::Args>)]) -> Result<(), Fault>
         ensures ok { OnOk result (self.new ≡ record self.old { due_room = max (length (local_places self.old.here entries.now)) self.old.due_room }) }
         ensures err { OnErr result (self.new ≡ self.old) }
         ensures only { IsOkUnless result Fault.OutOfMemory }
+        ensures succeeds { length (local_places self.old.here entries.now) ≤ self.old.due_room → IsOk result }
     {
         self.progress.reserve(entries, &self.config, self.partition)
     }

@@ -1,6 +1,7 @@
 //! Snapshots, points and cold rows of a scheduler's partition.
 ghost use Rattle.std.specs.Prelude.{◌≡◌, ◌+◌, ◌++◌, ◌≤◌, false, true, OnOk, OnErr, IfOk, IfErr, IsOkUnless};
 ghost use Rattle.calvin_types.specs.Deeds.{Refuses, Does, Did};
+ghost use Rattle.calvin_store.specs.Points.{warm_grows};
 ghost use Rattle.calvin_sched.specs.Keeping.{takes_effect, is_point_at, rows_at};
 ghost use Rattle.calvin_sched.specs.Standing as standing;
 
@@ -106,9 +107,9 @@ impl<A: App, L: Locks + Drop, S: Rows<A::Row> + Drop> Scheduler<A, L, S> {
     }
 
     /// The rows of the keys of these sets come back from the cold table, where they are there. Refused with `OutOfMemory`
-    /// where the keeper of rows has a cold table and a growth was refused.
+    /// where the keeper of rows has a cold table, one of these keys has its row there, and a growth was refused.
     pub fn warm(&mut self, sets: &Sets) -> Result<(), Fault>
-        ensures did { Did S.cold result (Does (standing.warm (sets.now.reads ++ sets.now.writes) self.old.scheduling) tt) self.old.scheduling self.new.scheduling }
+        ensures did { Did (warm_grows S.cold (sets.now.reads ++ sets.now.writes) self.old.scheduling.store) result (Does (standing.warm (sets.now.reads ++ sets.now.writes) self.old.scheduling) tt) self.old.scheduling self.new.scheduling }
         ensures rest { self.new ≡ record self.old { scheduling = self.new.scheduling; room = self.new.room } }
         ensures room { self.old.room ≤ self.new.room }
     {

@@ -3,7 +3,7 @@ ghost use Rattle.std.specs.Prelude.{◌≡◌, true, Ok, OnOk, IfErr};
 ghost use Rattle.calvin_types.specs.Deeds.{Refuses};
 ghost use Rattle.calvin_sched.specs.Keeping.{IsNotDue, takes_effect};
 ghost use Rattle.calvin_sched.specs.Progress.{left};
-ghost use Rattle.calvin_sched.specs.Scheduling.{turn_at, is_read_here};
+ghost use Rattle.calvin_sched.specs.Scheduling.{turn_at, is_read_here, serves_others};
 ghost use Rattle.calvin_sched.specs.Steps as steps;
 
 use crate::scheduler::Scheduler;
@@ -30,6 +30,17 @@ impl<A: App, L: Locks + Drop, S: Rows<A::Row> + Drop> Scheduler<A, L, S> {
                 .sets
                 .reads
                 .has_local(&self.config, self.partition),
+            None => false,
+        }
+    }
+
+    /// Whether the request that is admitted at a place, if one is, reads a key that is stored here, and another partition runs
+    /// it too: then this one's rows are wanted there.
+    pub fn serves_others(&self, place: Place) -> bool
+        ensures { result ≡ serves_others self.now.here (turn_at self.now.scheduling place) }
+    {
+        match self.turn(place) {
+            Some(turn) => turn.serves_others(&self.config, self.partition),
             None => false,
         }
     }

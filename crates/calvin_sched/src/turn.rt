@@ -1,12 +1,12 @@
 //! An admitted request.
-ghost use Rattle.std.specs.Prelude.{◌≡◌, if◌then◌else◌, ◌<◌, ◌≤◌, ◌-◌, ◌||◌, ◌&&◌, ◌==◌, not, is_some, max, length, IsTrue, IfOk, OnOk, OnErr, IsOkUnless};
+ghost use Rattle.std.specs.Prelude.{◌≡◌, if◌then◌else◌, ◌<◌, ◌≤◌, ◌-◌, ◌||◌, ◌&&◌, ◌==◌, not, is_some, Some, max, length, IsTrue, IfOk, OnOk, OnErr, IsOkUnless};
 ghost use Rattle.std.specs.List.{list_all};
 ghost use Rattle.std.specs.FinMap as map;
 ghost use Rattle.calvin_types.specs.Keys.{partition_of};
 ghost use Rattle.calvin_types.specs.Participants.{site, is_local, local_keys, is_active};
 ghost use Rattle.calvin_app.specs.Rows.{view};
 ghost use Rattle.calvin_sched.specs.Keeping.{awaited};
-ghost use Rattle.calvin_sched.specs.Scheduling.{new_turn, is_finished, awaits, is_collected, piece, whole_view, other_active};
+ghost use Rattle.calvin_sched.specs.Scheduling.{new_turn, is_finished, awaits, is_collected, piece, whole_view, other_active, serves_others};
 ghost use Rattle.calvin_sched.specs.Steps.{begun_turn, serving, with_rows};
 ghost use Rattle.calvin_sched.specs.declared.phase.Phase.TheVariants.{Begun, Done};
 
@@ -235,6 +235,14 @@ impl<A: App> Turn<A> {
             }
         }
         others
+    }
+
+    /// Whether it reads a key that is stored here, and another partition runs it too.
+    pub(crate) fn serves_others(&self, config: &Config, partition: u8) -> bool
+        ensures { result ≡ serves_others (site config.now.partitions partition) (Some self.now.turn) }
+    {
+        self.job.txn.sets.reads.has_local(config, partition)
+            && self.others(config, partition).len() > 0
     }
 
     /// Reads what is stored here. Where the request is passive here it is done, as others run it.

@@ -1,5 +1,5 @@
 -- The requests that wait become an epoch.
-use Rattle.std.proofs.Common.{ℕ, ◌≡◌, List, [], ◌∷◌, ◌++◌, false, sym, ◌∙◌, ap, subst, length, take, map, append-nil, Option, option_map, Result, Ok, Err, IfOk, ◌⊎◌, ⊎_elim}
+use Rattle.std.proofs.Common.{ℕ, ◌≡◌, List, [], ◌∷◌, ◌++◌, true, false, sym, ◌∙◌, ap, subst, length, take, map, append-nil, Option, option_map, Result, Ok, Err, IfOk, ◌⊎◌, ⊎_elim}
 use Rattle.std.proofs.lemmas.List.FromFn.{length-map-range_with_len}
 use Rattle.std.specs.Io.KnownBytes.{Appends}
 use Rattle.calvin_types.specs.declared.fault.Fault.{Fault}
@@ -25,7 +25,7 @@ same_out : (a b : Option (List ℕ)) → b ≡ a → Appends a b []
 same_out a b e = subst (λ o. Appends a o []) (sym e) (appends-none a)
 
 module _ {Args Row Reply : Type 0} (m : Meaning Args Row Reply) (show : Reply → List ℕ) (grammar : Grammar Args) (now : Sitting Args Row) (out_now : Option (List ℕ)) (line : List ℕ) (epoch : List (Listed Args))
-    (reads : epoch_in grammar (length now.waiting) line ≡ Ok (batches_of now.waiting)) (listed : epoch ≡ batches_of now.waiting) where
+    (reads : epoch_in grammar (length now.waiting) line ≡ Ok (batches_of now.waiting)) (listed : epoch ≡ batches_of now.waiting) (waits : now.waits ≡ true) where
   module _ (old : Standing Row) (out : Option (List ℕ)) (lines : List (Result (Asked Args) Fault)) (f : Follows m show grammar old out lines now out_now) where
     groups : length now.waiting ≡ old.setting.partitions
     groups = ap length f.waiting ∙ length-map-range_with_len (λ g. waiting_for g f.asked) 0 old.setting.partitions
@@ -44,12 +44,12 @@ module _ {Args Row Reply : Type 0} (m : Meaning Args Row Reply) (show : Reply �
           subst (λ (x : Sitting Args Row). Follows m show grammar old out lines x out_new)
           ((λ i. record { desk = sym commits.stands i; waiting = gathered (sym partitions i) []; count = now.count; waits = false })
           ∙ ap (λ (x : Standing Row). record { desk = x; waiting = gathered now.desk.setting.partitions []; count = now.count; waits = false }) (sym here) ∙ sym is)
-          (follow_settle m show grammar old out lines now out_now f line commits.here d.rows ran reads_so out_new (subst (Appends out_now out_new) commits.added printed))
+          (follow_settle m show grammar old out lines now out_now f waits line commits.here d.rows ran reads_so out_new (subst (Appends out_now out_new) commits.added printed))
 
       pub ends_in_part : (out_new : Option (List ℕ)) (n : ℕ) → Appends out_now out_new (take n said) → (disk : Option Disk) → Becomes (option_map (λ ls. (ls, ls)) d.lines) disk
           → Ends m show grammar old out lines disk out_new
       ends_in_part out_new n printed disk left =
-          ends_settled m show grammar old out lines now out_now f line commits.here d.rows ran reads_so out_new n (subst (λ w. Appends out_now out_new (take n w)) commits.added printed) disk
+          ends_settled m show grammar old out lines now out_now f waits line commits.here d.rows ran reads_so out_new n (subst (λ w. Appends out_now out_new (take n w)) commits.added printed) disk
           (subst (λ o. Becomes (option_map (λ ls. (ls, ls)) o) disk) (ap (λ (x : Standing Row). x.lines) commits.stands) left)
 
     pub ends_so : (out_new : Option (List ℕ)) (disk : Option Disk)
@@ -58,7 +58,7 @@ module _ {Args Row Reply : Type 0} (m : Meaning Args Row Reply) (show : Reply �
         → Ends m show grammar old out lines disk out_new
     ends_so out_new disk either =
         ⊎_elim
-        (λ next. subst (λ o. Ends m show grammar old out lines disk o) (sym next.1) (ends_next m show grammar old out lines now out_now f line reads_so disk next.0))
+        (λ next. subst (λ o. Ends m show grammar old out lines disk o) (sym next.1) (ends_next m show grammar old out lines now out_now f waits line reads_so disk next.0))
         (λ part. ends_in_part part.0 part.1 part.3 out_new part.2 part.4 disk part.5)
         either
 

@@ -46,6 +46,11 @@ prefix-refl xs ys e = ([], append-nil xs ∙ e)
 pub prefix-more : {A : Type 0} (xs ys zs : List A) → IsPrefix xs ys → IsPrefix xs (ys ++ zs)
 prefix-more xs ys zs p = (p.0 ++ zs, sym (append_assoc xs p.0 zs) ∙ ap (λ w. w ++ zs) p.1)
 
+-- one item more is some item
+some_more : {A : Type 0} (xs : List A) (x : A) → xs ++ x ∷ [] ≡ [] → ⊥
+some_more [] x e = absurd (cc e)
+some_more (y ∷ ys) x e = absurd (cc e)
+
 take-behind : (xs ys : List ℕ) (n : ℕ) → take (length xs + n) (xs ++ ys) ≡ xs ++ take n ys
 take-behind [] ys n =
     let none : 0 + n ≡ n = omega arith in
@@ -85,6 +90,7 @@ module _ {Args Row Reply : Type 0} (m : Meaning Args Row Reply) (show : Reply �
       count = ap (λ n. n + 1) f.count ∙ sym (length-append lines (Ok a ∷ []));
       waiting = grows partitions f.asked f.waiting;
       rests = λ no. absurd (cc no);
+      waits = λ yes. some_more f.asked a;
       text = f.text;
       answered = f.answered;
       printed = f.printed;
@@ -110,7 +116,7 @@ module _ {Args Row Reply : Type 0} (m : Meaning Args Row Reply) (show : Reply �
     epoch_is : batches_of now.waiting ≡ epoch_of_asked partitions f.asked
     epoch_is = ap batches_of f.waiting
 
-    module _ (line here : List ℕ) (rows : Rows Row) (ran : epoch_answers m show now.desk.setting now.desk.epoch now.desk.rows (batches_of now.waiting) ≡ Ok (rows, here)) where
+    module _ (waits : now.waits ≡ true) (line here : List ℕ) (rows : Rows Row) (ran : epoch_answers m show now.desk.setting now.desk.epoch now.desk.rows (batches_of now.waiting) ≡ Ok (rows, here)) where
       ran_so : epoch_answers m show old.setting (old.epoch + epochs_in f.turns) now.desk.rows (epoch_of_asked partitions f.asked) ≡ Ok (rows, here)
       ran_so = (λ i. epoch_answers m show (sym setting_is i) (sym number i) now.desk.rows (sym epoch_is i)) ∙ ran
 
@@ -122,7 +128,7 @@ module _ {Args Row Reply : Type 0} (m : Meaning Args Row Reply) (show : Reply �
           ∙ ap (λ w. Ok (rows, f.text ++ w)) (append-nil here)
 
       spells : epoch_in grammar partitions line ≡ Ok (batches_of now.waiting) → AreSpelled grammar partitions settled (f.added ++ line ∷ [])
-      spells is = spelled-append grammar partitions f.turns (Epoch f.asked ∷ []) f.added (line ∷ []) f.spelled (is ∙ ap Ok epoch_is, refl)
+      spells is = spelled-append grammar partitions f.turns (Epoch f.asked ∷ []) f.added (line ∷ []) f.spelled (f.waits waits, is ∙ ap Ok epoch_is, refl)
 
       abbrev pub after : Standing Row
       after = record { setting = now.desk.setting; lines = option_map (λ ls. ls ++ line ∷ []) now.desk.lines; failures = now.desk.failures; epoch = now.desk.epoch + 1; rows = rows }
@@ -142,6 +148,7 @@ module _ {Args Row Reply : Type 0} (m : Meaning Args Row Reply) (show : Reply �
         count = f.count;
         waiting = refl;
         rests = λ _. refl;
+        waits = λ yes. absurd (cc yes);
         text = f.text ++ here;
         answered = settled_answers;
         printed = appends-more out out_now out_new f.text here f.printed printed;
@@ -193,9 +200,9 @@ module _ {Args Row Reply : Type 0} (m : Meaning Args Row Reply) (show : Reply �
       journal = bounds-both old.lines f.added disk (subst (λ o. Becomes (option_map (λ ls. (ls, ls)) o) disk) (ap (λ (d : Standing Row). d.lines) f.stands) left);
     }
 
-    pub ends_next : (line : List ℕ) → epoch_in grammar partitions line ≡ Ok (batches_of now.waiting)
+    pub ends_next : now.waits ≡ true → (line : List ℕ) → epoch_in grammar partitions line ≡ Ok (batches_of now.waiting)
         → (disk : Option Disk) → Becomes (option_map (λ ls. (ls, ls ++ line ∷ [])) now.desk.lines) disk → Ends m show grammar old out lines disk out_now
-    ends_next line is disk left = record {
+    ends_next waits line is disk left = record {
       turns = f.turns;
       next = Epoch f.asked ∷ [];
       one_more = inr (f.asked, refl);
@@ -208,7 +215,7 @@ module _ {Args Row Reply : Type 0} (m : Meaning Args Row Reply) (show : Reply �
       added = f.added;
       more = line ∷ [];
       spelled = f.spelled;
-      spelled_next = (is ∙ ap Ok epoch_is, refl);
+      spelled_next = (f.waits waits, is ∙ ap Ok epoch_is, refl);
       journal = bounds-one old.lines f.added line disk (subst (λ o. Becomes (option_map (λ ls. (ls, ls ++ line ∷ [])) o) disk) (ap (λ (d : Standing Row). d.lines) f.stands) left);
     }
 
@@ -246,6 +253,7 @@ module _ {Args Row Reply : Type 0} (m : Meaning Args Row Reply) (show : Reply �
         count = ap (λ n. n + 1) f.count ∙ sym (length-append lines (Err fault ∷ []));
         waiting = f.waiting ∙ ap (gathered partitions) (f.rests none);
         rests = λ _. refl;
+        waits = λ yes. absurd (cc yes);
         text = f.text ++ refusal (now.count + 1) fault;
         answered = refused_answers;
         printed = appends-more out out_now out_new f.text (refusal (now.count + 1) fault) f.printed printed;
@@ -304,6 +312,7 @@ follow_start m show grammar old out =
       count = refl;
       waiting = refl;
       rests = λ _. refl;
+      waits = λ yes. absurd (cc yes);
       text = [];
       answered = refl;
       printed = appends-none out;

@@ -27,13 +27,13 @@ module _ {Args : Type 0} where
   spelled-append grammar partitions [] more xs ys p q = subst (λ w. AreSpelled grammar partitions more (w ++ ys)) (sym p) q
   spelled-append grammar partitions (Refusal fault ∷ turns) more xs ys p q = spelled-append grammar partitions turns more xs ys p q
   spelled-append grammar partitions (Epoch asked ∷ turns) more [] ys p q = absurd p
-  spelled-append grammar partitions (Epoch asked ∷ turns) more (x ∷ xs) ys p q = (p.0, spelled-append grammar partitions turns more xs ys p.1 q)
+  spelled-append grammar partitions (Epoch asked ∷ turns) more (x ∷ xs) ys p q = (p.0, p.1, spelled-append grammar partitions turns more xs ys p.2 q)
 
   pub spelled-length : (grammar : Grammar Args) (partitions : ℕ) (turns : List (Turn Args)) (xs : List (List ℕ)) → AreSpelled grammar partitions turns xs → length xs ≡ epochs_in turns
   spelled-length grammar partitions [] xs p = ap length p
   spelled-length grammar partitions (Refusal fault ∷ turns) xs p = spelled-length grammar partitions turns xs p
   spelled-length grammar partitions (Epoch asked ∷ turns) [] p = absurd p
-  spelled-length grammar partitions (Epoch asked ∷ turns) (x ∷ xs) p = ap suc (spelled-length grammar partitions turns xs p.1)
+  spelled-length grammar partitions (Epoch asked ∷ turns) (x ∷ xs) p = ap suc (spelled-length grammar partitions turns xs p.2)
 
 module _ {Args Row Reply : Type 0} (m : Meaning Args Row Reply) (show : Reply → List ℕ) (setting : Setting) where
   abbrev Told : Type 0

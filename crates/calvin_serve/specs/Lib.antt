@@ -1,2 +1,3 @@
+pub mod Blame
 pub mod Serving
 pub mod Turns

@@ -3,7 +3,7 @@
 --     Follows m show grammar old out lines now out_now      from this desk and what had been printed, lines that were read so lead to this sitting and to what is printed now
 --     Serves m show grammar old out lines now out_now      the same where no request waits
 --     Ends m show grammar old out lines disk out_now      a service is at an end: what it printed is of turns whose epochs every crash leaves in the journal; beside them a crash may leave the epoch that came next
-use Rattle.std.specs.Prelude.{◌≡◌, ◌⊎◌, ℕ, ◌+◌, List, [], ◌∷◌, ◌++◌, Bool, false, map, length, take, Option, option_map, IfSome, Result, Ok}
+use Rattle.std.specs.Prelude.{◌≡◌, ◌≢◌, ◌⊎◌, ℕ, ◌+◌, List, [], ◌∷◌, ◌++◌, Bool, true, false, map, length, take, Option, option_map, IfSome, Result, Ok}
 use Rattle.std.specs.Io.KnownBytes.{Appends}
 use mathlib.Core.List.{IsPrefix}
 use Rattle.calvin_types.specs.declared.fault.Fault.{Fault}
@@ -33,6 +33,7 @@ module _ {Args Row Reply : Type 0} (m : Meaning Args Row Reply) (show : Reply �
     pub count : now.count ≡ length lines
     pub waiting : now.waiting ≡ gathered old.setting.partitions asked
     pub rests : now.waits ≡ false → asked ≡ []
+    pub waits : now.waits ≡ true → asked ≢ []
     pub text : List ℕ
     pub answered : told m show old.setting 1 old.epoch old.rows turns ≡ Ok (now.desk.rows, text)
     pub printed : Appends out out_now text

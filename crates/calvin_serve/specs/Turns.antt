@@ -4,8 +4,8 @@
 --     epoch_in_order partitions asked      the epoch of these requests
 --     refusal k fault      `line K refused NUMBER NAME`
 --     told m show setting k e rows turns      what is printed of turns, of which the first line is the input's line k and the first epoch has the number e, on these rows; and the rows after them
---     AreSpelled grammar partitions turns lines      the lines of a journal are those of the turns' epochs, in order
-use Rattle.std.specs.Prelude.{◌≡◌, ℕ, suc, ◌+◌, List, [], ◌∷◌, ◌++◌, map, length, codes, decimal, Result, Ok, Err}
+--     AreSpelled grammar partitions turns lines      the lines of a journal are those of the turns' epochs, in order, and each of these has a request
+use Rattle.std.specs.Prelude.{◌≡◌, ◌≢◌, ℕ, suc, ◌+◌, List, [], ◌∷◌, ◌++◌, map, length, codes, decimal, Result, Ok, Err}
 use Rattle.calvin_types.specs.declared.fault.Fault.{Fault}
 use Rattle.calvin_types.specs.Faults.{number_of, name_of}
 use Rattle.calvin_app.specs.Rows.{Rows}
@@ -40,7 +40,7 @@ module _ {Args : Type 0} where
   AreSpelled grammar partitions (Refusal fault ∷ turns) lines = AreSpelled grammar partitions turns lines
   AreSpelled grammar partitions (Epoch asked ∷ turns) [] = ⊥
   AreSpelled grammar partitions (Epoch asked ∷ turns) (line ∷ lines) =
-      (epoch_in grammar partitions line ≡ Ok (epoch_of_asked partitions asked)) × AreSpelled grammar partitions turns lines
+      (asked ≢ []) × (epoch_in grammar partitions line ≡ Ok (epoch_of_asked partitions asked)) × AreSpelled grammar partitions turns lines
 
 module _ {Args Row Reply : Type 0} (m : Meaning Args Row Reply) (show : Reply → List ℕ) (setting : Setting) where
   abbrev pub told : ℕ → ℕ → Rows Row → List (Turn Args) → Result (Rows Row × List ℕ) Fault

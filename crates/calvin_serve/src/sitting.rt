@@ -1,7 +1,8 @@
 //! A desk with the requests that wait for its next epoch.
-ghost use Rattle.std.specs.Prelude.{◌≡◌, ◌<◌, ◌≤◌, ◌∷◌, ◌++◌, ◌⊎◌, ℕ, List, [], Option, Result, Ok, Err, true, false, IfOk, IfErr, take, option_map};
+ghost use Rattle.std.specs.Prelude.{◌≡◌, ◌≢◌, ◌<◌, ◌≤◌, ◌∷◌, ◌++◌, ◌⊎◌, ℕ, List, [], Option, Result, Ok, Err, true, false, IfOk, IfErr, take, option_map};
 ghost use Rattle.std.specs.Io.KnownBytes.{Appends};
 ghost use Rattle.calvin_types.specs.declared.fault.Fault.{Fault as SomeFault};
+ghost use Rattle.calvin_types.specs.declared.fault.Fault.TheVariants.{OutOfMemory, ReadFailed};
 ghost use Rattle.calvin_serial.specs.FirstSets.{NeedsFirst};
 ghost use Rattle.calvin_types.specs.declared.limits.TheConstants.{MOST_EPOCHS};
 ghost use Rattle.calvin_journal.specs.Journals.{Becomes};
@@ -10,14 +11,16 @@ ghost use Rattle.calvin_journal.specs.Lines.{has_break};
 ghost use Rattle.calvin_serve_desk.specs.Desks.{Standing, Commits};
 ghost use Rattle.calvin_serve_lines.specs.Gathered.{gathered, has_room};
 ghost use Rattle.calvin_serve_lines.specs.Asking.{Asked as TheAsked, request_line};
+ghost use Rattle.calvin_serve.specs.Blame.{IsBlamed};
 ghost use Rattle.calvin_serve.specs.Serving.{Follows, Ends};
 
 use crate::refusal::refusal;
 use calvin_app::Settles;
 use calvin_edge::{Sink, write_all};
+use calvin_journal::Refused;
 use calvin_journal_log::Log;
 use calvin_script::{Epoch, Kept, Operation};
-use calvin_serve_desk::{Desk, ServiceFault, Stopped};
+use calvin_serve_desk::Desk;
 use calvin_serve_lines::{Asked, Gathering, read_request};
 use calvin_text::Printed;
 use calvin_types::{Fault, MOST_EPOCHS};
@@ -67,10 +70,12 @@ where
         alloc: Global,
         desk: Desk<A, L>,
         count: u64,
-    ) -> Result<Sitting<A, L>, Stopped<L>>
+    ) -> Result<Sitting<A, L>, Refused<L>>
         requires in_range { count ≤ MOST_EPOCHS }
         ensures ok { IfOk result (λ s. s ≡ record { desk = desk; waiting = gathered desk.setting.partitions []; count = count; waits = false }) }
         ensures err { IfErr result (λ s. Becomes (option_map (λ ls. (ls, ls)) desk.lines) (L.told s.log)) }
+        ensures only { IfErr result (λ s. s.fault ≡ OutOfMemory) }
+        ensures failures { IfErr result (λ s. L.failures s.log ≡ desk.failures) }
     {
         match Gathering::new(alloc, desk.setting().partitions) {
             Ok(waiting) => Ok(Sitting {
@@ -79,19 +84,20 @@ where
                 count,
                 waits: false,
             }),
-            Err(_) => Err(Stopped {
-                fault: ServiceFault::OutOfMemory,
+            Err(_) => Err(Refused {
+                fault: Fault::OutOfMemory,
                 log: desk.into_log(),
             }),
         }
     }
 
     /// The end, for a reason that isn't the journal's.
-    pub(crate) fn stop(self, fault: ServiceFault) -> Stopped<L>
+    pub(crate) fn stop(self, fault: Fault) -> Refused<L>
         ensures fault { result.fault ≡ fault }
         ensures left { Becomes (option_map (λ ls. (ls, ls)) self.desk.lines) (L.told result.log) }
+        ensures failures { L.failures result.log ≡ self.desk.failures }
     {
-        Stopped {
+        Refused {
             fault,
             log: self.desk.into_log(),
         }
@@ -102,7 +108,7 @@ where
         self,
         alloc: Global,
         sink: &mut K,
-    ) -> Result<Sitting<A, L>, Stopped<L>>
+    ) -> Result<Sitting<A, L>, Refused<L>>
         requires first { NeedsFirst A.Args.grammar A.meaning }
         ensures ok { IfOk result (λ s. (old : Standing A.Row) → (out : Option (List ℕ)) → (lines : List (Result (TheAsked A.Args) SomeFault))
             → Follows A.meaning A.Reply.printed A.Args.grammar old out lines self (K.taken sink.old)
@@ -113,14 +119,17 @@ where
         ensures err { IfErr result (λ s. (old : Standing A.Row) → (out : Option (List ℕ)) → (lines : List (Result (TheAsked A.Args) SomeFault))
             → Follows A.meaning A.Reply.printed A.Args.grammar old out lines self (K.taken sink.old)
             → Ends A.meaning A.Reply.printed A.Args.grammar old out lines (L.told s.log) (K.taken sink.new)) }
+        ensures no_failure { IfOk result (λ s. (s.desk.failures ≡ self.desk.failures) × (K.failures sink.new ≡ K.failures sink.old)) }
+        ensures blame { IfErr result (λ s. IsBlamed s.fault self.desk.failures (L.failures s.log) (K.failures sink.old) (K.failures sink.new)) }
+        ensures unread { IfErr result (λ s. s.fault ≢ ReadFailed) }
     {
         if !self.waits {
             return Ok(self);
         }
         match self.waiting.into_epoch(alloc) {
             Ok((line, epoch)) => settle_as(alloc, self.desk, self.count, &line, &epoch, sink),
-            Err(_) => Err(Stopped {
-                fault: ServiceFault::OutOfMemory,
+            Err(_) => Err(Refused {
+                fault: Fault::OutOfMemory,
                 log: self.desk.into_log(),
             }),
         }
@@ -132,7 +141,7 @@ where
         alloc: Global,
         line: &[u8],
         sink: &mut K,
-    ) -> Result<Sitting<A, L>, Stopped<L>>
+    ) -> Result<Sitting<A, L>, Refused<L>>
         requires first { NeedsFirst A.Args.grammar A.meaning }
         ensures ok { IfOk result (λ s. (old : Standing A.Row) → (out : Option (List ℕ)) → (lines : List (Result (TheAsked A.Args) SomeFault))
             → Follows A.meaning A.Reply.printed A.Args.grammar old out lines self (K.taken sink.old)
@@ -140,15 +149,18 @@ where
         ensures err { IfErr result (λ s. (old : Standing A.Row) → (out : Option (List ℕ)) → (lines : List (Result (TheAsked A.Args) SomeFault))
             → Follows A.meaning A.Reply.printed A.Args.grammar old out lines self (K.taken sink.old)
             → Ends A.meaning A.Reply.printed A.Args.grammar old out (lines ++ request_line A.Args.grammar old.setting.partitions line.now ∷ []) (L.told s.log) (K.taken sink.new)) }
+        ensures no_failure { IfOk result (λ s. (s.desk.failures ≡ self.desk.failures) × (K.failures sink.new ≡ K.failures sink.old)) }
+        ensures blame { IfErr result (λ s. IsBlamed s.fault self.desk.failures (L.failures s.log) (K.failures sink.old) (K.failures sink.new)) }
+        ensures unread { IfErr result (λ s. s.fault ≢ ReadFailed) }
     {
         if self.count >= MOST_EPOCHS {
-            return Err(self.stop(ServiceFault::EpochsSpent));
+            return Err(self.stop(Fault::EpochsSpent));
         }
         match read_request(alloc, self.desk.setting().partitions, line) {
             Ok(asked) => self.take(alloc, asked, sink),
             Err(fault) => {
                 if fault == Fault::OutOfMemory {
-                    return Err(self.stop(ServiceFault::OutOfMemory));
+                    return Err(self.stop(Fault::OutOfMemory));
                 }
                 self.refuse(alloc, fault, sink)
             }
@@ -161,7 +173,7 @@ where
         alloc: Global,
         asked: Asked<A::Args>,
         sink: &mut K,
-    ) -> Result<Sitting<A, L>, Stopped<L>>
+    ) -> Result<Sitting<A, L>, Refused<L>>
         requires first { NeedsFirst A.Args.grammar A.meaning }
         requires in_range { self.count < MOST_EPOCHS }
         requires group { asked.group < self.desk.setting.partitions }
@@ -171,6 +183,9 @@ where
         ensures err { IfErr result (λ s. (old : Standing A.Row) → (out : Option (List ℕ)) → (lines : List (Result (TheAsked A.Args) SomeFault))
             → Follows A.meaning A.Reply.printed A.Args.grammar old out lines self (K.taken sink.old)
             → Ends A.meaning A.Reply.printed A.Args.grammar old out (lines ++ Ok asked ∷ []) (L.told s.log) (K.taken sink.new)) }
+        ensures no_failure { IfOk result (λ s. (s.desk.failures ≡ self.desk.failures) × (K.failures sink.new ≡ K.failures sink.old)) }
+        ensures blame { IfErr result (λ s. IsBlamed s.fault self.desk.failures (L.failures s.log) (K.failures sink.old) (K.failures sink.new)) }
+        ensures unread { IfErr result (λ s. s.fault ≢ ReadFailed) }
     {
         if self.waiting.has_room(asked.group()) {
             return self.add(asked);
@@ -182,13 +197,16 @@ where
     }
 
     /// A request waits for the next epoch.
-    fn add(self, asked: Asked<A::Args>) -> Result<Sitting<A, L>, Stopped<L>>
+    fn add(self, asked: Asked<A::Args>) -> Result<Sitting<A, L>, Refused<L>>
         requires in_range { self.count < MOST_EPOCHS }
         requires room { has_room self.waiting asked.group ≡ true }
         ensures ok { IfOk result (λ s. (old : Standing A.Row) → (out : Option (List ℕ)) → (out_now : Option (List ℕ)) → (lines : List (Result (TheAsked A.Args) SomeFault))
             → Follows A.meaning A.Reply.printed A.Args.grammar old out lines self out_now
             → Follows A.meaning A.Reply.printed A.Args.grammar old out (lines ++ Ok asked ∷ []) s out_now) }
         ensures err { IfErr result (λ s. Becomes (option_map (λ ls. (ls, ls)) self.desk.lines) (L.told s.log)) }
+        ensures no_failure { IfOk result (λ s. s.desk.failures ≡ self.desk.failures) }
+        ensures only { IfErr result (λ s. s.fault ≡ OutOfMemory) }
+        ensures failures { IfErr result (λ s. L.failures s.log ≡ self.desk.failures) }
     {
         let mut waiting = self.waiting;
         match waiting.add(asked) {
@@ -198,8 +216,8 @@ where
                 count: self.count + 1,
                 waits: true,
             }),
-            Err(_) => Err(Stopped {
-                fault: ServiceFault::OutOfMemory,
+            Err(_) => Err(Refused {
+                fault: Fault::OutOfMemory,
                 log: self.desk.into_log(),
             }),
         }
@@ -211,7 +229,7 @@ where
         alloc: Global,
         fault: Fault,
         sink: &mut K,
-    ) -> Result<Sitting<A, L>, Stopped<L>>
+    ) -> Result<Sitting<A, L>, Refused<L>>
         requires first { NeedsFirst A.Args.grammar A.meaning }
         requires in_range { self.count < MOST_EPOCHS }
         ensures ok { IfOk result (λ s. (old : Standing A.Row) → (out : Option (List ℕ)) → (lines : List (Result (TheAsked A.Args) SomeFault))
@@ -220,6 +238,9 @@ where
         ensures err { IfErr result (λ s. (old : Standing A.Row) → (out : Option (List ℕ)) → (lines : List (Result (TheAsked A.Args) SomeFault))
             → Follows A.meaning A.Reply.printed A.Args.grammar old out lines self (K.taken sink.old)
             → Ends A.meaning A.Reply.printed A.Args.grammar old out (lines ++ Err fault ∷ []) (L.told s.log) (K.taken sink.new)) }
+        ensures no_failure { IfOk result (λ s. (s.desk.failures ≡ self.desk.failures) × (K.failures sink.new ≡ K.failures sink.old)) }
+        ensures blame { IfErr result (λ s. IsBlamed s.fault self.desk.failures (L.failures s.log) (K.failures sink.old) (K.failures sink.new)) }
+        ensures unread { IfErr result (λ s. s.fault ≢ ReadFailed) }
     {
         match self.settle(alloc, sink) {
             Ok(settled) => settled.tell(alloc, fault, sink),
@@ -233,7 +254,7 @@ where
         alloc: Global,
         fault: Fault,
         sink: &mut K,
-    ) -> Result<Sitting<A, L>, Stopped<L>>
+    ) -> Result<Sitting<A, L>, Refused<L>>
         requires rests { self.waits ≡ false }
         requires in_range { self.count < MOST_EPOCHS }
         ensures ok { IfOk result (λ s. (old : Standing A.Row) → (out : Option (List ℕ)) → (lines : List (Result (TheAsked A.Args) SomeFault))
@@ -242,9 +263,12 @@ where
         ensures err { IfErr result (λ s. (old : Standing A.Row) → (out : Option (List ℕ)) → (lines : List (Result (TheAsked A.Args) SomeFault))
             → Follows A.meaning A.Reply.printed A.Args.grammar old out lines self (K.taken sink.old)
             → Ends A.meaning A.Reply.printed A.Args.grammar old out (lines ++ Err fault ∷ []) (L.told s.log) (K.taken sink.new)) }
+        ensures no_failure { IfOk result (λ s. (s.desk.failures ≡ self.desk.failures) × (K.failures sink.new ≡ K.failures sink.old)) }
+        ensures blame { IfErr result (λ s. IsBlamed s.fault self.desk.failures (L.failures s.log) (K.failures sink.old) (K.failures sink.new)) }
+        ensures unread { IfErr result (λ s. s.fault ≢ ReadFailed) }
     {
         let Ok(text) = refusal(alloc, self.count + 1, fault) else {
-            return Err(self.stop(ServiceFault::OutOfMemory));
+            return Err(self.stop(Fault::OutOfMemory));
         };
         match write_all(sink, &text) {
             Ok(()) => Ok(Sitting {
@@ -253,7 +277,7 @@ where
                 count: self.count + 1,
                 waits: false,
             }),
-            Err(_) => Err(self.stop(ServiceFault::WriteFailed)),
+            Err(_) => Err(self.stop(Fault::WriteFailed)),
         }
     }
 
@@ -273,7 +297,7 @@ fn settle_as<A: Settles + Drop, L: Log + Drop, K: Sink>(
     line: &[u8],
     epoch: &Epoch<Kept<A::Args>>,
     sink: &mut K,
-) -> Result<Sitting<A, L>, Stopped<L>>
+) -> Result<Sitting<A, L>, Refused<L>>
 where
     A::Args: Operation,
     A::Reply: Printed,
@@ -286,13 +310,16 @@ where
     ensures err { IfErr result (λ s. (Becomes (option_map (λ ls. (ls, ls ++ line.now ∷ [])) desk.lines) (L.told s.log) × (K.taken sink.new ≡ K.taken sink.old))
         ⊎ ((d : Standing A.Row) × (said : List ℕ) × (n : ℕ) × Commits A.meaning A.Reply.printed desk line.now (all_listed epoch.now) d [] said
         × Appends (K.taken sink.old) (K.taken sink.new) (take n said) × Becomes (option_map (λ ls. (ls, ls)) d.lines) (L.told s.log))) }
+    ensures no_failure { IfOk result (λ s. (s.desk.failures ≡ desk.failures) × (K.failures sink.new ≡ K.failures sink.old)) }
+    ensures blame { IfErr result (λ s. IsBlamed s.fault desk.failures (L.failures s.log) (K.failures sink.old) (K.failures sink.new)) }
+    ensures unread { IfErr result (λ s. s.fault ≢ ReadFailed) }
 {
     let mut text = Vec::new(alloc);
     match desk.commit(alloc, line, epoch, &mut text) {
         Ok(desk) => match write_all(sink, &text) {
             Ok(()) => Sitting::new(alloc, desk, count),
-            Err(_) => Err(Stopped {
-                fault: ServiceFault::WriteFailed,
+            Err(_) => Err(Refused {
+                fault: Fault::WriteFailed,
                 log: desk.into_log(),
             }),
         },

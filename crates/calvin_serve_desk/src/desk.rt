@@ -1,27 +1,29 @@
 //! The desk.
-ghost use Rattle.std.specs.Prelude.{◌≡◌, ◌≤◌, ◌+◌, ◌⊎◌, ◌∷◌, ◌++◌, [], ℕ, List, Ok, false, IfOk, IfErr, OnOk, IsOkUnless, option_map};
+ghost use Rattle.std.specs.Prelude.{◌≡◌, ◌≢◌, ◌≤◌, ◌+◌, ◌⊎◌, ◌∷◌, ◌++◌, [], ℕ, List, Ok, true, false, IfOk, IfErr, OnOk, IsOkUnless, option_map};
+ghost use Rattle.std.specs.FinMap as map;
 ghost use Rattle.calvin_types.specs.declared.limits.TheConstants.{MOST_EPOCHS};
+ghost use Rattle.calvin_types.specs.Keys.{are_distinct};
+ghost use Rattle.calvin_app.specs.Rows.{overwritten};
+ghost use Rattle.calvin_app.specs.Writing.{keys_of};
 ghost use Rattle.calvin_script.specs.Scripts.{all_listed};
 ghost use Rattle.calvin_serial.specs.FirstSets.{NeedsFirst};
 ghost use Rattle.calvin_journal.specs.Lines.{has_break};
 ghost use Rattle.calvin_journal.specs.Journals.{Becomes};
-ghost use Rattle.calvin_journal_log.specs.declared.fault.JournalFault.TheVariants as journal;
-ghost use Rattle.calvin_serve_desk.specs.declared.fault.ServiceFault.TheVariants.{OutOfMemory, EpochsSpent, Journal as OfJournal};
+ghost use Rattle.calvin_types.specs.declared.fault.Fault.TheVariants.{OutOfMemory, EpochsSpent, JournalFailed};
 ghost use Rattle.calvin_serve_desk.specs.Desks.{Commits};
 ghost use Rattle.calvin_serve_desk.specs.Epochs.{epoch_answers};
 
-use crate::fault::{ServiceFault, Stopped};
 use crate::one_epoch::OneEpoch;
 use crate::setting::Setting;
 use calvin_app::{Serial, Settles};
-use calvin_journal::Journal;
+use calvin_journal::{Journal, Refused};
 use calvin_journal_log::Log;
 use calvin_order::EpochRequests;
 use calvin_script::{Epoch, Kept, Operation};
 use calvin_serial::push_answers;
 use calvin_text::Printed;
-use calvin_types::{Config, Fault, MOST_EPOCHS};
-use std::alloc::Global;
+use calvin_types::{Config, Fault, Key, MOST_EPOCHS};
+use std::alloc::{AllocError, Global};
 use std::marker::Model;
 
 /// A journal, and the rows where its epochs leave them. To contracts it is the journal's lines, where its log tells its bytes,
@@ -87,24 +89,25 @@ where
         line: &[u8],
         epoch: &Epoch<Kept<A::Args>>,
         text: &mut Vec<u8>,
-    ) -> Result<Desk<A, L>, Stopped<L>>
+    ) -> Result<Desk<A, L>, Refused<L>>
         requires first { NeedsFirst A.Args.grammar A.meaning }
         requires one_line { has_break line.now ≡ false }
         ensures ok { IfOk result (λ d. Commits A.meaning A.Reply.printed self line.now (all_listed epoch.now) d text.old.items text.new.items) }
         ensures any_moment { IfErr result (λ s. Becomes (option_map (λ ls. (ls, ls ++ line.now ∷ [])) self.lines) (L.told s.log)) }
-        ensures only { IfErr result (λ s. (s.fault ≡ OutOfMemory) ⊎ (s.fault ≡ EpochsSpent) ⊎ (s.fault ≡ OfJournal journal.JournalFailed)) }
+        ensures only { IfErr result (λ s. (s.fault ≡ OutOfMemory) ⊎ (s.fault ≡ EpochsSpent) ⊎ (s.fault ≡ JournalFailed)) }
         ensures spent { IfErr result (λ s. s.fault ≡ EpochsSpent → (MOST_EPOCHS ≤ self.epoch) × Becomes (option_map (λ ls. (ls, ls)) self.lines) (L.told s.log)) }
-        ensures failed { IfErr result (λ s. s.fault ≡ OfJournal journal.JournalFailed → L.failures s.log ≡ self.failures + 1) }
+        ensures failed { IfErr result (λ s. s.fault ≡ JournalFailed → L.failures s.log ≡ self.failures + 1) }
+        ensures not_failed { IfErr result (λ s. s.fault ≢ JournalFailed → L.failures s.log ≡ self.failures) }
     {
         if self.epoch >= MOST_EPOCHS {
-            return Err(Stopped {
-                fault: ServiceFault::EpochsSpent,
+            return Err(Refused {
+                fault: Fault::EpochsSpent,
                 log: self.journal.into_log(),
             });
         }
         let journal = match self.journal.add(alloc, line) {
             Ok(journal) => journal,
-            Err(refused) => return Err(Stopped::from_journal(refused)),
+            Err(refused) => return Err(refused),
         };
         let mut store = self.store;
         match run_epoch(
@@ -123,8 +126,8 @@ where
                 epoch: self.epoch + 1,
                 journal,
             }),
-            Err(_) => Err(Stopped {
-                fault: ServiceFault::OutOfMemory,
+            Err(_) => Err(Refused {
+                fault: Fault::OutOfMemory,
                 log: journal.into_log(),
             }),
         }
@@ -137,11 +140,35 @@ where
         &self.setting
     }
 
-    /// The number of the next epoch.
+    /// The number of the next epoch, which is at most 2^48: then all are used.
     pub fn epoch(&self) -> u64
-        ensures { result ≡ self.now.epoch }
+        ensures number { result ≡ self.now.epoch }
+        ensures in_range { result ≤ MOST_EPOCHS }
     {
         self.epoch
+    }
+
+    /// All rows with their keys, in ascending order of the keys. Refused for want of memory.
+    pub fn rows(&self, alloc: Global) -> Result<Vec<(Key, A::Row)>, AllocError>
+        ensures rows { IfOk result (λ rows. rows.items ≡ map.entries self.now.rows) }
+        ensures whole { IfOk result (λ rows. overwritten map.empty rows.items ≡ self.now.rows) }
+        ensures distinct { IfOk result (λ rows. are_distinct (keys_of rows.items) ≡ true) }
+    {
+        self.store.to_rows(alloc)
+    }
+
+    /// The same rows over another journal, which they go on from with the same number of the next epoch. The former journal is
+    /// closed.
+    pub fn over<N: Log + Drop>(self, journal: Journal<N>) -> Desk<A, N>
+        ensures { result ≡ record { setting = self.setting; lines = journal.lines; failures = journal.failures; epoch = self.epoch; rows = self.rows } }
+    {
+        Desk {
+            app: self.app,
+            setting: self.setting,
+            store: self.store,
+            epoch: self.epoch,
+            journal,
+        }
     }
 
     /// The log. Whatever crashes, its file has these lines and nothing else.

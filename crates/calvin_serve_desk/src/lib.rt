@@ -3,12 +3,10 @@
 #![tactic(auto)]
 
 mod desk;
-mod fault;
 mod laws;
 mod one_epoch;
 mod setting;
 
 pub use desk::{Desk, run_epoch};
-pub use fault::{ServiceFault, Stopped};
-pub use laws::answered_as_a_script;
+pub use laws::{answered_as_a_script, answered_in_two};
 pub use setting::Setting;

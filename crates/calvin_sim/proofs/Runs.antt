@@ -17,15 +17,16 @@ use Rattle.calvin_script.specs.Scripts.{Contents, contents}
 use Rattle.calvin_script.specs.Reading.{script_from}
 use Rattle.calvin_script.proofs.Applications.{read_as}
 use Rattle.calvin_app.specs.Meaning.{Meaning}
-use Rattle.calvin_order.specs.Configs.{store_config}
 use Rattle.calvin_world.specs.Worlds.{WorldState}
+use Rattle.calvin_report.specs.Reports.{is_lost, least_kept}
+use Rattle.calvin_sim_events.specs.declared.schedule.Schedule.{Schedule}
 use Rattle.calvin_sim.specs.Engine.{IsRun}
 use Rattle.calvin_sim.specs.Simulations.{IsSimulation}
-use Rattle.calvin_sim.specs.Telling.{IsTold}
+use Rattle.calvin_sim.specs.Telling.{IsToldUpTo}
 
-module _ {Args Row Reply X : Type 0} (m : Meaning Args Row Reply) (grammar : Grammar Args) (show : Reply → List ℕ) (replicas : ℕ) (world : X → WorldState Args Row Reply) (text : X → List ℕ) (c : Contents Args) where
-  pub is_run : (result : Result X Fault) → IfOk result (λ r. IsSimulation m (store_config c.partitions replicas 0 c.woven_from) c (world r)) → IfOk result (λ r. IsTold m show (world r) (text r))
-      → IfOk result (λ r. (bytes : List ℕ) → script_from grammar bytes ≡ Ok c → IsRun m grammar show replicas bytes (world r) (text r))
+module _ {Args Row Reply X : Type 0} (m : Meaning Args Row Reply) (grammar : Grammar Args) (show : Reply → List ℕ) (schedule : Schedule) (world : X → WorldState Args Row Reply) (text : X → List ℕ) (c : Contents Args) where
+  pub is_run : (result : Result X Fault) → IfOk result (λ r. IsSimulation m schedule c (world r)) → IfOk result (λ r. IsToldUpTo m show (world r) (least_kept (is_lost schedule.lost) (world r)) (text r))
+      → IfOk result (λ r. (bytes : List ℕ) → script_from grammar bytes ≡ Ok c → IsRun m grammar show schedule bytes (world r) (text r))
   is_run (Ok r) simulation told = λ bytes read. record { script = c; read = read; simulation = simulation; told = told }
   is_run (Err fault) simulation told = tt
 

@@ -1,7 +1,8 @@
--- What is told of a simulated world. The text is of this project; what it tells is the serial run of the merged order of the
+-- What is told of a world. The text is of this project; what it tells is the serial run of the merged order of the
 -- batches that were chosen (Thomson et al. 2012, section 3).
---     IsTold m show v text      the lines of the serial run of the epochs at whose end every node stands, and the last of them
-use Rattle.std.specs.Prelude.{◌≡◌, ℕ, List, ◌++◌, map}
+--     IsToldUpTo m show v last text      the lines of the serial run of the epochs up to the last one, if there is one, and then that one
+--     IsTold m show v text      the same of the last epoch at whose end every node stands
+use Rattle.std.specs.Prelude.{◌≡◌, ℕ, List, ◌++◌, map, Option}
 use Rattle.std.specs.FinMap.{empty}
 use Rattle.calvin_app.specs.Meaning.{Meaning}
 use Rattle.calvin_app.specs.Serial.{serial}
@@ -18,7 +19,10 @@ module _ {Args Row Reply : Type 0} (m : Meaning Args Row Reply) (show : Reply �
   abbrev pub run_text : WorldState Args Row Reply → Assignment Args → ℕ → List ℕ
   run_text v B n = lines show (order v.config B n) (serial m (map (λ e. e.1) (order v.config B n)) empty).1 ++ finished n
 
-  pub record IsTold (v : WorldState Args Row Reply) (text : List ℕ) : Type 0 where
+  pub record IsToldUpTo (v : WorldState Args Row Reply) (last : Option ℕ) (text : List ℕ) : Type 0 where
     pub batches : Assignment Args
-    pub chosen : IsChosenUpTo v batches (epochs_upto (least_standing v))
-    pub told : text ≡ run_text v batches (epochs_upto (least_standing v))
+    pub chosen : IsChosenUpTo v batches (epochs_upto last)
+    pub told : text ≡ run_text v batches (epochs_upto last)
+
+  abbrev pub IsTold : WorldState Args Row Reply → List ℕ → Type 0
+  IsTold v text = IsToldUpTo v (least_standing v) text

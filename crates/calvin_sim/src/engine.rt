@@ -51,7 +51,7 @@ where
     A::Reply: Printed,
     requires taken { AllTaken (contents script.now) }
     ensures run { IfOk result (λ r. (bytes : List ℕ) → script_from A.Args.grammar bytes ≡ Ok (contents script.now)
-        → IsRun A.meaning A.Args.grammar A.Reply.printed schedule.now.replicas bytes r.0 r.1.items) }
+        → IsRun A.meaning A.Args.grammar A.Reply.printed schedule.now bytes r.0 r.1.items) }
     ensures fits { Reads (λ r. tt) result (fitting (contents script.now)) }
 {
     if !fits(script) {
@@ -62,7 +62,7 @@ where
 
 /// Runs the bytes of a script for the application that it names. They are given back before it is run.
 fn run_bytes(alloc: Global, bytes: Vec<u8>, schedule: &Schedule) -> Result<Told, Fault>
-    ensures told { IfOk result (λ told. IsSimText schedule.now.replicas bytes.items told.world told.text.items) }
+    ensures told { IfOk result (λ told. IsSimText schedule.now bytes.items told.world told.text.items) }
     ensures fits { Reads (λ told. tt) result (and_then (app_script_from bytes.items) fitting_in) }
 {
     match read_script(alloc, bytes)? {
@@ -91,7 +91,7 @@ fn run_bytes(alloc: Global, bytes: Vec<u8>, schedule: &Schedule) -> Result<Told,
 }
 
 /// Reads a script to the end of the source, runs it in a world under a schedule, and writes a line for each request of the epochs
-/// at whose end every node stands, and then the last of them. The world is given back. The whole text is built before any of it
+/// at whose end every node stands whose packets the schedule doesn't lose, and then the last of them. The world is given back. The whole text is built before any of it
 /// is written.
 pub fn sim<S: Source, K: Sink>(
     alloc: Global,
@@ -99,16 +99,16 @@ pub fn sim<S: Source, K: Sink>(
     source: &mut S,
     sink: &mut K,
 ) -> Result<Simulated, Fault>
-    // What is written is the text of the world that is given back, to which the script that was read led.
+    // What is written is the text of the world that is given back, to which the script that was read led under the schedule.
     ensures ok { IfOk result (λ world. IfSome (S.left source.old) (λ bytes. (text : List ℕ)
-        × IsSimText schedule.now.replicas bytes world text × Appends (K.taken sink.old) (K.taken sink.new) text)) }
+        × IsSimText schedule.now bytes world text × Appends (K.taken sink.old) (K.taken sink.new) text)) }
     // Which fault it is: no other one comes, and a script is refused with its own.
     ensures only { IfErr result IsSimFault }
     ensures refused { IfErr result (λ fault. IfSome (S.left source.old) (λ bytes. Refuses fault (sim_script bytes))) }
     // Nothing is written, but where writing fails.
     ensures untouched { IfErr result (λ fault. fault ≢ Fault.WriteFailed → sink.new ≡ sink.old) }
     ensures beginning { IsErrOf result Fault.WriteFailed → IfSome (S.left source.old) (λ bytes. (world : Simulated) × (text : List ℕ)
-        × IsSimText schedule.now.replicas bytes world text × (n : ℕ) × (n < length text) × Appends (K.taken sink.old) (K.taken sink.new) (take n text)) }
+        × IsSimText schedule.now bytes world text × (n : ℕ) × (n < length text) × Appends (K.taken sink.old) (K.taken sink.new) (take n text)) }
     // How far it read, and which device failed.
     ensures devices { LeavesAsTold S.Source K.Sink source.old source.new sink.old sink.new (result_err result) }
 {

@@ -1,9 +1,8 @@
 //! A script is run in a world.
 ghost use Rattle.std.specs.Prelude.{◌≡◌, false, true, IfOk, OnOk, IsOkUnless};
-ghost use Rattle.calvin_order.specs.Configs.{store_config};
 ghost use Rattle.calvin_script.specs.Scripts.{contents};
 ghost use Rattle.calvin_world.specs.Worlds.{opening};
-ghost use Rattle.calvin_sim.specs.Simulations.{AllTaken, fits, IsSimulation};
+ghost use Rattle.calvin_sim.specs.Simulations.{AllTaken, config_under, fits, IsSimulation};
 
 use crate::submitting::submit_all;
 use calvin_app::App;
@@ -13,7 +12,8 @@ use calvin_types::Fault;
 use calvin_world::StoreWorld;
 use std::alloc::Global;
 
-/// The submissions of a script happen in a new world, then drawn events, then those that bring every node to the last epoch.
+/// The submissions of a script happen in a new world, then as many drawn events as the schedule says, then the passes that bring
+/// every node to the last epoch. None of them ends for want of memory.
 /// Refused with `OutOfMemory` alone.
 fn play<A: App + Drop>(
     alloc: Global,
@@ -23,23 +23,25 @@ fn play<A: App + Drop>(
 ) -> Result<(), Fault>
 where
     A::Args: Operation,
-    requires new { world.old ≡ opening (store_config script.now.partitions schedule.now.replicas 0 script.now.woven_from) }
+    requires new { world.old ≡ opening (config_under schedule.now (contents script.now)) }
     requires taken { AllTaken (contents script.now) }
     requires fits { fits (contents script.now) ≡ true }
-    ensures ok { OnOk result (IsSimulation A.meaning (store_config script.now.partitions schedule.now.replicas 0 script.now.woven_from) (contents script.now) world.new) }
+    ensures ok { OnOk result (IsSimulation A.meaning schedule.now (contents script.now) world.new) }
     ensures only { IsOkUnless result Fault.OutOfMemory }
 {
     let config = *world.config();
     let epochs = script.epochs.len() as u64;
     submit_all(world, script)?;
     draw_events(world, &config, epochs, schedule)?;
-    bring_on(alloc, world, &config, epochs)?;
+    bring_on(alloc, world, &config, epochs, schedule)?;
     Ok(())
 }
 
-/// Submits a script to a new world, and lets drawn events happen, and then those that bring every node to the last epoch. The
-/// script fits (`fits`), and a sequencer takes each of its requests, as it does where the script was read (`read_is_taken`).
-/// Refused with `OutOfMemory` alone.
+/// Submits a script to a new world, and lets as many drawn events happen as the schedule says, and then passes of those that bring
+/// every node to the last epoch, but for the nodes whose packets the schedule loses. Nodes restart in drawn events alone, and there
+/// only those that the schedule lets restart; where it repeats packets, each pass does. The script
+/// fits (`fits`), and a sequencer takes each of its requests, as it does where the script was read (`read_is_taken`). Refused with
+/// `OutOfMemory` alone, as soon as an event is: at success none was.
 pub fn simulate<A: App + Drop>(
     alloc: Global,
     app: A,
@@ -50,7 +52,7 @@ where
     A::Args: Operation,
     requires taken { AllTaken (contents script.now) }
     requires fits { fits (contents script.now) ≡ true }
-    ensures ok { IfOk result (λ w. IsSimulation A.meaning (store_config script.now.partitions schedule.now.replicas 0 script.now.woven_from) (contents script.now) w) }
+    ensures ok { IfOk result (IsSimulation A.meaning schedule.now (contents script.now)) }
     ensures only { IsOkUnless result Fault.OutOfMemory }
 {
     let config = script.config(schedule.replicas);

@@ -1,11 +1,11 @@
 //! Events that are drawn.
-ghost use Rattle.std.specs.Prelude.{◌≡◌, true, IfSome, IsOkUnless};
-ghost use Rattle.calvin_types.specs.declared.place.NodeId.{NodeId};
+ghost use Rattle.std.specs.Prelude.{◌≡◌, true, false, IfSome, OnOk, OnErr, IsOkUnless};
 ghost use Rattle.calvin_world.specs.declared.event.Event.TheVariants.{At};
-ghost use Rattle.calvin_sim_events.specs.Quiet.{is_quiet, LeadsQuietly};
+ghost use Rattle.calvin_report.specs.Reports.{is_lost};
+ghost use Rattle.calvin_sim_events.specs.Quiet.{may_restart, is_allowed, is_lossy, LeadsQuietlyBy, LeadsToWant};
 
 use crate::schedule::{Restarts, Schedule};
-use crate::stepping::{happen, sent};
+use crate::stepping::{attempt, is_of_lost, sent};
 use calvin_app::App;
 use calvin_node::Act;
 use calvin_store::Rows;
@@ -29,14 +29,12 @@ struct Front {
     marked: Option<u64>,
 }
 
-/// From what events are drawn: a generator, the nodes that there are, how many epochs were closed, and whether nodes
-/// restart.
+/// From what events are drawn: a generator, the nodes that there are, and how many epochs were closed.
 #[derive(Drop)]
 struct Drawing {
     generator: Lcg64Xsh32,
     config: Config,
     epochs: u64,
-    restarts: Restarts,
 }
 
 impl Drawing {
@@ -82,19 +80,21 @@ impl Drawing {
         packets.saturating_sub(back).saturating_sub(1)
     }
 
-    /// Whether a node restarts now.
-    fn draw_restart(&mut self, id: NodeId) -> bool {
-        match self.restarts {
+    /// Whether a node restarts now, where it may.
+    fn draw_restart(&mut self, id: NodeId, restarts: Restarts) -> bool
+        ensures { result ≡ true → may_restart restarts id ≡ true }
+    {
+        match restarts {
             Restarts::Never => false,
             Restarts::AboveReplicaZero => id.replica > 0 && self.draw(16) == 0,
         }
     }
 
     /// An act of a node that has come so far.
-    fn draw_act<Args>(&mut self, id: NodeId, front: Front) -> Act<Args>
-        ensures { (at : NodeId) → is_quiet (At at result) ≡ true }
+    fn draw_act<Args>(&mut self, id: NodeId, front: Front, restarts: Restarts) -> Act<Args>
+        ensures { is_allowed restarts (At id result) ≡ true }
     {
-        if self.draw_restart(id) {
+        if self.draw_restart(id, restarts) {
             return Act::Restart;
         }
         match self.draw(11) {
@@ -130,10 +130,11 @@ impl Drawing {
         world: &StoreWorld<A>,
         id: NodeId,
         front: Front,
+        restarts: Restarts,
     ) -> Option<Act<A::Args>>
-        ensures { (at : NodeId) → IfSome result (λ act. is_quiet (At at act) ≡ true) }
+        ensures { IfSome result (λ act. is_allowed restarts (At id act) ≡ true) }
     {
-        if self.restarts == Restarts::Never {
+        if restarts == Restarts::Never {
             return None;
         }
         match self.draw(16) {
@@ -144,18 +145,26 @@ impl Drawing {
         }
     }
 
-    /// An event of a world: more often than not the delivery of a packet.
-    fn draw_event<A: App + Drop>(&mut self, world: &StoreWorld<A>) -> Event<A::Args>
-        ensures { is_quiet result ≡ true }
+    /// An event of a world: more often than not the delivery of a packet, unless that is lost.
+    fn draw_event<A: App + Drop>(
+        &mut self,
+        world: &StoreWorld<A>,
+        schedule: &Schedule,
+    ) -> Event<A::Args>
+        ensures allowed { is_allowed schedule.now.restarts result ≡ true }
+        ensures kept { is_lossy (is_lost schedule.now.lost) world.now.packets result ≡ false }
     {
         if self.draw(3) > 0 {
-            return Event::Deliver(self.draw_packet(sent(world)));
+            let number = self.draw_packet(sent(world));
+            if !is_of_lost(world, number, schedule.lost) {
+                return Event::Deliver(number);
+            }
         }
         let id = self.draw_node();
         let front = front_of(world, id);
-        match self.draw_act_on_rows(world, id, front) {
+        match self.draw_act_on_rows(world, id, front, schedule.restarts) {
             Some(act) => Event::At(id, act),
-            None => Event::At(id, self.draw_act(id, front)),
+            None => Event::At(id, self.draw_act(id, front, schedule.restarts)),
         }
     }
 }
@@ -177,27 +186,27 @@ fn front_of<A: App + Drop>(world: &StoreWorld<A>, id: NodeId) -> Front {
     }
 }
 
-/// Lets as many drawn events happen as the schedule says, of a script with so many epochs. `config` is what the world was
-/// opened with. Refused with `OutOfMemory` alone.
-#[tactic(auto, using(crate::proofs::Leading::quiet_here, crate::proofs::Leading::quiet_then))]
+/// Lets as many drawn events happen as the schedule says, of a script with so many epochs; a node restarts only where the
+/// schedule lets it, and no packet is delivered that it loses. `config` is what the world was opened with. Refused with `OutOfMemory` alone, as soon as an event is.
+#[tactic(auto, using(crate::proofs::Leading::quiet_here_by, crate::proofs::Leading::quiet_then_by, crate::proofs::Leading::want_then_by))]
 pub fn draw_events<A: App + Drop>(
     world: &mut StoreWorld<A>,
     config: &Config,
     epochs: u64,
     schedule: &Schedule,
 ) -> Result<(), Fault>
-    ensures quiet { LeadsQuietly A.meaning world.old world.new }
+    ensures quiet { OnOk result (LeadsQuietlyBy A.meaning schedule.now.restarts (is_lost schedule.now.lost) schedule.now.steps world.old world.new) }
+    ensures want { OnErr result (LeadsToWant A.meaning schedule.now.restarts (is_lost schedule.now.lost) world.old world.new) }
     ensures only { IsOkUnless result Fault.OutOfMemory }
 {
     let mut drawing = Drawing {
         generator: Lcg64Xsh32::new(schedule.start, STREAM),
         config: *config,
         epochs,
-        restarts: schedule.restarts,
     };
-    for _ in 0..schedule.steps {
-        let event = drawing.draw_event(world);
-        let _outcome = happen(world, &event)?;
+    for _step in 0..schedule.steps {
+        let event = drawing.draw_event(world, schedule);
+        let _outcome = attempt(world, &event)?;
     }
     Ok(())
 }

@@ -1,12 +1,16 @@
 //! What brings the nodes on: packets are delivered as they are sent, and each node that one reached works on.
-ghost use Rattle.std.specs.Prelude.{◌≡◌, true, IsOkUnless};
-ghost use Rattle.calvin_sim_events.specs.Quiet.{is_quiet, LeadsQuietly};
+ghost use Rattle.std.specs.Prelude.{◌≡◌, true, OnOk, OnErr, IsOkUnless};
+ghost use Rattle.calvin_sim_events.specs.declared.schedule.Restarts.TheVariants.{Never};
+ghost use Rattle.calvin_report.specs.Reports.{is_lost};
+ghost use Rattle.calvin_sim_events.specs.Passes.{IsRedelivery, Repeats};
+ghost use Rattle.calvin_sim_events.specs.Quiet.{everyone, LeadsQuietly, LeadsToWant};
 
-use crate::stepping::{addressee, happen, sent};
+use crate::schedule::Schedule;
+use crate::stepping::{deliver, happen_at, sent};
 use calvin_app::App;
 use calvin_node::Act;
 use calvin_types::{Config, Fault, NodeId, Place};
-use calvin_world::{Event, Outcome, StoreWorld};
+use calvin_world::{Outcome, StoreWorld};
 use std::alloc::Global;
 
 /// A node, and whether something reached it since it last worked.
@@ -19,7 +23,7 @@ pub(crate) struct Seat {
 /// All nodes, replica by replica, and how many packets were delivered so far, one after another.
 #[derive(Drop)]
 pub(crate) struct Crew {
-    config: Config,
+    pub config: Config,
     pub seats: Vec<Seat>,
     delivered: usize,
 }
@@ -52,43 +56,49 @@ impl Crew {
         }
     }
 
-    /// Delivers a packet to the node that it is for, which is to work if the packet took effect. Answers to clients stay.
-    #[tactic(auto, using(crate::proofs::Leading::quiet_here, crate::proofs::Leading::quiet_then))]
+    /// Delivers a packet to the node that it is for, unless it is lost; the node is to work if the packet took effect. Answers to
+    /// clients stay.
     fn deliver<A: App + Drop>(
         &mut self,
         world: &mut StoreWorld<A>,
         number: usize,
+        lost: Option<u8>,
     ) -> Result<(), Fault>
-        ensures quiet { LeadsQuietly A.meaning world.old world.new }
+        ensures quiet { OnOk result (LeadsQuietly A.meaning Never (is_lost lost) world.old world.new) }
+        ensures want { OnErr result (LeadsToWant A.meaning Never (is_lost lost) world.old world.new) }
+        ensures delivered { OnOk result (IsRedelivery A.meaning (is_lost lost) number world.old world.new) }
         ensures only { IsOkUnless result Fault.OutOfMemory }
     {
-        let Some(id) = addressee(world, number) else {
-            return Ok(());
-        };
-        if let Outcome::Done = happen(world, &Event::Deliver(number))? {
+        if let Some(id) = deliver(world, number, lost)? {
             self.wake(id);
         }
         Ok(())
     }
 
     /// Delivers the packets that were sent so far and not delivered here yet.
-    #[tactic(auto, using(crate::proofs::Leading::quiet_here, crate::proofs::Leading::quiet_then))]
-    fn deliver_sent<A: App + Drop>(&mut self, world: &mut StoreWorld<A>) -> Result<(), Fault>
-        ensures quiet { LeadsQuietly A.meaning world.old world.new }
+    #[tactic(auto, using(crate::proofs::Leading::quiet_here, crate::proofs::Leading::quiet_then, crate::proofs::Leading::want_then))]
+    fn deliver_sent<A: App + Drop>(
+        &mut self,
+        world: &mut StoreWorld<A>,
+        lost: Option<u8>,
+    ) -> Result<(), Fault>
+        ensures quiet { OnOk result (LeadsQuietly A.meaning Never (is_lost lost) world.old world.new) }
+        ensures want { OnErr result (LeadsToWant A.meaning Never (is_lost lost) world.old world.new) }
         ensures only { IsOkUnless result Fault.OutOfMemory }
     {
         let end = sent(world);
         for number in self.delivered..end {
-            self.deliver(world, number)?;
+            self.deliver(world, number, lost)?;
         }
         self.delivered = end;
         Ok(())
     }
 
     /// Each node that is to work does, replica by replica; one that merged an epoch is to work again.
-    #[tactic(auto, using(crate::proofs::Leading::quiet_here, crate::proofs::Leading::quiet_then))]
+    #[tactic(auto, using(crate::proofs::Leading::quiet_here, crate::proofs::Leading::quiet_then, crate::proofs::Leading::want_then))]
     fn work<A: App + Drop>(&mut self, world: &mut StoreWorld<A>) -> Result<(), Fault>
-        ensures quiet { LeadsQuietly A.meaning world.old world.new }
+        ensures quiet { OnOk result (LeadsQuietly A.meaning Never everyone world.old world.new) }
+        ensures want { OnErr result (LeadsToWant A.meaning Never everyone world.old world.new) }
         ensures only { IsOkUnless result Fault.OutOfMemory }
     {
         for seat in &mut self.seats {
@@ -100,12 +110,17 @@ impl Crew {
     }
 
     /// Packets are delivered, and then the nodes work that they reached.
-    #[tactic(auto, using(crate::proofs::Leading::quiet_here, crate::proofs::Leading::quiet_then))]
-    fn turn<A: App + Drop>(&mut self, world: &mut StoreWorld<A>) -> Result<(), Fault>
-        ensures quiet { LeadsQuietly A.meaning world.old world.new }
+    #[tactic(auto, using(crate::proofs::Leading::quiet_here, crate::proofs::Leading::quiet_then, crate::proofs::Leading::want_then, crate::proofs::Leading::quiet_then_ok, crate::proofs::Leading::want_then_err))]
+    fn turn<A: App + Drop>(
+        &mut self,
+        world: &mut StoreWorld<A>,
+        lost: Option<u8>,
+    ) -> Result<(), Fault>
+        ensures quiet { OnOk result (LeadsQuietly A.meaning Never (is_lost lost) world.old world.new) }
+        ensures want { OnErr result (LeadsToWant A.meaning Never (is_lost lost) world.old world.new) }
         ensures only { IsOkUnless result Fault.OutOfMemory }
     {
-        self.deliver_sent(world)?;
+        self.deliver_sent(world, lost)?;
         self.work(world)
     }
 
@@ -121,16 +136,43 @@ impl Crew {
 
     /// Packets are delivered and nodes work until nothing is left to do. Each turn but the last delivers a packet or merges an
     /// epoch, and of both there are fewer than 2^63.
-    #[tactic(auto, using(crate::proofs::Leading::quiet_here, crate::proofs::Leading::quiet_then))]
-    pub fn work_on<A: App + Drop>(&mut self, world: &mut StoreWorld<A>) -> Result<(), Fault>
-        ensures quiet { LeadsQuietly A.meaning world.old world.new }
+    #[tactic(auto, using(crate::proofs::Leading::quiet_here, crate::proofs::Leading::quiet_then, crate::proofs::Leading::want_then))]
+    pub fn work_on<A: App + Drop>(
+        &mut self,
+        world: &mut StoreWorld<A>,
+        lost: Option<u8>,
+    ) -> Result<(), Fault>
+        ensures quiet { OnOk result (LeadsQuietly A.meaning Never (is_lost lost) world.old world.new) }
+        ensures want { OnErr result (LeadsToWant A.meaning Never (is_lost lost) world.old world.new) }
         ensures only { IsOkUnless result Fault.OutOfMemory }
     {
         for _ in 0..u64::MAX {
-            self.turn(world)?;
+            self.turn(world, lost)?;
             if self.is_idle(world) {
                 break;
             }
+        }
+        Ok(())
+    }
+
+    /// Where packets are repeated, delivers each of the first ones again that is for a node and isn't lost, from the one with the
+    /// greatest number down.
+    #[tactic(auto, using(crate::proofs::Leading::quiet_here, crate::proofs::Leading::quiet_then, crate::proofs::Leading::want_then))]
+    pub fn deliver_again<A: App + Drop>(
+        &mut self,
+        world: &mut StoreWorld<A>,
+        packets: usize,
+        schedule: &Schedule,
+    ) -> Result<(), Fault>
+        ensures again { OnOk result (Repeats A.meaning schedule.now.repeats (is_lost schedule.now.lost) packets world.old world.new) }
+        ensures want { OnErr result (LeadsToWant A.meaning Never (is_lost schedule.now.lost) world.old world.new) }
+        ensures only { IsOkUnless result Fault.OutOfMemory }
+    {
+        if !schedule.repeats {
+            return Ok(());
+        }
+        for done in 0..packets {
+            self.deliver(world, packets - done - 1, schedule.lost)?;
         }
         Ok(())
     }
@@ -147,21 +189,23 @@ fn id_at(config: &Config, at: usize) -> NodeId {
 
 /// A node merges the next epoch, if it is decided, and lets all that is merged ask for its locks. Says whether an epoch was
 /// merged.
-#[tactic(auto, using(crate::proofs::Leading::quiet_here, crate::proofs::Leading::quiet_then))]
+#[tactic(auto, using(crate::proofs::Leading::quiet_here, crate::proofs::Leading::quiet_then, crate::proofs::Leading::want_then))]
 fn admit<A: App + Drop>(world: &mut StoreWorld<A>, id: NodeId) -> Result<bool, Fault>
-    ensures quiet { LeadsQuietly A.meaning world.old world.new }
+    ensures quiet { OnOk result (LeadsQuietly A.meaning Never everyone world.old world.new) }
+    ensures want { OnErr result (LeadsToWant A.meaning Never everyone world.old world.new) }
     ensures only { IsOkUnless result Fault.OutOfMemory }
 {
-    let merged = happen(world, &Event::At(id, Act::Merge))?;
-    repeat(world, &Event::At(id, Act::Lock))?;
+    let merged = happen_at(world, id, Act::Merge)?;
+    lock_all(world, id)?;
     Ok(merged == Outcome::Done)
 }
 
 /// A node merges and admits what it can of the next epoch; then what is ready runs. Says whether an epoch was merged: there may
 /// be another one.
-#[tactic(auto, using(crate::proofs::Leading::quiet_here, crate::proofs::Leading::quiet_then))]
+#[tactic(auto, using(crate::proofs::Leading::quiet_here, crate::proofs::Leading::quiet_then, crate::proofs::Leading::want_then))]
 fn work_at<A: App + Drop>(world: &mut StoreWorld<A>, id: NodeId) -> Result<bool, Fault>
-    ensures quiet { LeadsQuietly A.meaning world.old world.new }
+    ensures quiet { OnOk result (LeadsQuietly A.meaning Never everyone world.old world.new) }
+    ensures want { OnErr result (LeadsToWant A.meaning Never everyone world.old world.new) }
     ensures only { IsOkUnless result Fault.OutOfMemory }
 {
     let merged = admit(world, id)?;
@@ -169,16 +213,15 @@ fn work_at<A: App + Drop>(world: &mut StoreWorld<A>, id: NodeId) -> Result<bool,
     Ok(merged)
 }
 
-/// An event happens again and again until it is refused, as it is once all that was decided is merged, or all that was
-/// merged has asked for its locks: so 2^64 times are enough.
-#[tactic(auto, using(crate::proofs::Leading::quiet_here, crate::proofs::Leading::quiet_then))]
-fn repeat<A: App + Drop>(world: &mut StoreWorld<A>, event: &Event<A::Args>) -> Result<(), Fault>
-    requires { is_quiet event.now ≡ true }
-    ensures quiet { LeadsQuietly A.meaning world.old world.new }
+/// All that a node merged asks for its locks, one after another, until none is left: so 2^64 times are enough.
+#[tactic(auto, using(crate::proofs::Leading::quiet_here, crate::proofs::Leading::quiet_then, crate::proofs::Leading::want_then))]
+fn lock_all<A: App + Drop>(world: &mut StoreWorld<A>, id: NodeId) -> Result<(), Fault>
+    ensures quiet { OnOk result (LeadsQuietly A.meaning Never everyone world.old world.new) }
+    ensures want { OnErr result (LeadsToWant A.meaning Never everyone world.old world.new) }
     ensures only { IsOkUnless result Fault.OutOfMemory }
 {
     for _ in 0..u64::MAX {
-        let Outcome::Done = happen(world, event)? else {
+        let Outcome::Done = happen_at(world, id, Act::Lock)? else {
             break;
         };
     }
@@ -188,9 +231,10 @@ fn repeat<A: App + Drop>(world: &mut StoreWorld<A>, event: &Event<A::Args>) -> R
 /// The requests of a node that have their locks run, in the order of their places, up to the epoch of the first that
 /// awaits rows. A request that is done gives its locks to later ones only, so one time over them is enough; there are
 /// fewer than 2^64.
-#[tactic(auto, using(crate::proofs::Leading::quiet_here, crate::proofs::Leading::quiet_then))]
+#[tactic(auto, using(crate::proofs::Leading::quiet_here, crate::proofs::Leading::quiet_then, crate::proofs::Leading::want_then))]
 fn run_ready<A: App + Drop>(world: &mut StoreWorld<A>, id: NodeId) -> Result<(), Fault>
-    ensures quiet { LeadsQuietly A.meaning world.old world.new }
+    ensures quiet { OnOk result (LeadsQuietly A.meaning Never everyone world.old world.new) }
+    ensures want { OnErr result (LeadsToWant A.meaning Never everyone world.old world.new) }
     ensures only { IsOkUnless result Fault.OutOfMemory }
 {
     let mut after = None;
@@ -225,11 +269,12 @@ fn awaits(outcome: Outcome) -> bool {
 }
 
 /// The request at a place begins, if it has not begun, and is finished if it can be.
-#[tactic(auto, using(crate::proofs::Leading::quiet_here, crate::proofs::Leading::quiet_then))]
+#[tactic(auto, using(crate::proofs::Leading::quiet_here, crate::proofs::Leading::quiet_then, crate::proofs::Leading::want_then, crate::proofs::Leading::quiet_then_ok, crate::proofs::Leading::want_then_err))]
 fn run<A: App + Drop>(world: &mut StoreWorld<A>, id: NodeId, place: Place) -> Result<Outcome, Fault>
-    ensures quiet { LeadsQuietly A.meaning world.old world.new }
+    ensures quiet { OnOk result (LeadsQuietly A.meaning Never everyone world.old world.new) }
+    ensures want { OnErr result (LeadsToWant A.meaning Never everyone world.old world.new) }
     ensures only { IsOkUnless result Fault.OutOfMemory }
 {
-    let _begun = happen(world, &Event::At(id, Act::Begin(place)))?;
-    happen(world, &Event::At(id, Act::Finish(place)))
+    let _begun = happen_at(world, id, Act::Begin(place))?;
+    happen_at(world, id, Act::Finish(place))
 }

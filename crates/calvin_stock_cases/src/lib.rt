@@ -10,3 +10,5 @@ mod checks;
 mod orders;
 #[cfg(test)]
 mod requests;
+#[cfg(test)]
+mod scarce_totals;

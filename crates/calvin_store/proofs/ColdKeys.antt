@@ -1,6 +1,8 @@
 -- Of some keys those whose row is cold: how many they are.
-use Rattle.std.proofs.Common.{◌≡◌, ◌+◌, ◌≤◌, ℕ, Bool, true, false, cond, not, List, [], ◌∷◌, ◌++◌, length, drop, Option, Some, None, slice_get, is_some, sym, ap, ◌∙◌, subst, arith}
+use Rattle.std.proofs.Common.{◌≡◌, ◌+◌, ◌≤◌, ℕ, Bool, true, false, cond, not, ◌||◌, List, [], ◌∷◌, ◌++◌, length, drop, Option, Some, None, slice_get, is_some, refl, sym, ap, ◌∙◌, subst, arith}
+use Rattle.std.proofs.lemmas.Bool.{false≢true}
 use Rattle.std.specs.FinMap.{get, remove}
+use Rattle.std.specs.List.{list_any}
 use Rattle.std.specs.FinSet.{FinSet}
 use Rattle.calvin_types.specs.declared.key.Key.{Key}
 use Rattle.calvin_types.specs.Keys.{key_cmp, has}
@@ -26,6 +28,15 @@ module _ (cold : FinSet {K = Key} key_cmp) where
   cold-append : (ks js : List Key) → length (cold_of cold (ks ++ js)) ≡ length (cold_of cold ks) + length (cold_of cold js)
   cold-append [] js = omega arith
   cold-append (k ∷ ks) js = omega (arith, cold-cons k (ks ++ js), cold-cons k ks, cold-append ks js)
+
+  -- where no test finds one, there are none
+  pub none-listed : (ks : List Key) → list_any (λ k. is_some (get cold k)) ks ≡ false → cold_of cold ks ≡ []
+  none-listed [] none = refl
+  none-listed (k ∷ ks) none = go (is_some (get cold k)) (none-listed ks) none
+    where
+      go : (b : Bool) → (list_any (λ k. is_some (get cold k)) ks ≡ false → cold_of cold ks ≡ []) → (b || list_any (λ k. is_some (get cold k)) ks) ≡ false → cond b (k ∷ cold_of cold ks) (cold_of cold ks) ≡ []
+      go true rest found = absurd (false≢true (sym found))
+      go false rest none = rest none
 
   pub none-cold : (ks js : List Key) → cold_of cold (ks ++ js) ≡ [] → length (cold_of cold ks) + length (cold_of cold js) ≡ 0
   none-cold ks js none = sym (cold-append ks js) ∙ ap length none

@@ -1,3 +1,5 @@
+pub mod Held
+pub mod HeldLaws
 pub mod Kept
 pub mod Points
 pub mod Tiers

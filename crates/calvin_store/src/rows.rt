@@ -3,7 +3,7 @@ ghost use Rattle.std.specs.Prelude.{◌≡◌, ◌+◌, ◌-◌, ◌≤◌, ◌+
 ghost use Rattle.std.specs.FinMap as map;
 ghost use Rattle.calvin_types.specs.Deeds.{Did};
 ghost use Rattle.calvin_app.specs.Stores.{Store, loaded, put_at, is_hot, warmed};
-ghost use Rattle.calvin_store.specs.Points.{mark_at, cool_key, rows_of, IsMarked};
+ghost use Rattle.calvin_store.specs.Points.{mark_at, cool_key, rows_of, warm_grows, IsMarked};
 
 use crate::snapshot::Snapshot;
 use calvin_app::Writes;
@@ -85,30 +85,33 @@ pub trait Rows<Row: Copy> {
     fn marked(&self) -> Option<u64>
         ensures { IsMarked (store self.now).point result };
 
-    /// The rows of the open point; no rows where none is open. Refused with `OutOfMemory` where a growth was refused.
+    /// The rows of the open point; no rows where none is open. Refused with `OutOfMemory` where one is open and a growth was
+    /// refused.
     fn point(&self) -> Result<Snapshot<Row>, Fault>
         ensures ok { IfOk result (λ s. s ≡ rows_of (store self.now).point) }
-        ensures only { IsOkUnless result Fault.OutOfMemory };
+        ensures only { IsOkUnless result Fault.OutOfMemory }
+        ensures succeeds { (store self.now).point ≡ None → IsOk result };
 
-    /// Closes the open point; the present rows stay. Refused with `OutOfMemory` where a growth was refused.
+    /// Closes the open point; the present rows stay. Refused with `OutOfMemory` where one is open and a growth was refused.
     fn close_point(&mut self) -> Result<(), Fault>
         ensures ok { OnOk result (store self.new ≡ record (store self.old) { point = None }) }
         ensures err { OnErr result (store self.new ≡ store self.old) }
         ensures room { room self.old ≤ room self.new }
-        ensures only { IsOkUnless result Fault.OutOfMemory };
+        ensures only { IsOkUnless result Fault.OutOfMemory }
+        ensures succeeds { (store self.old).point ≡ None → IsOk result };
 
     /// Whether a key has a row that isn't cold.
     fn is_hot(&self, key: &Key) -> bool
         ensures { result ≡ is_hot (store self.now) key.now };
 
     /// The rows of the keys of these sets come back from the cold table, where they are there. Refused with `OutOfMemory`
-    /// where there is a cold table and a growth was refused.
+    /// where there is a cold table, one of these keys has its row there, and a growth was refused.
     fn warm(&mut self, sets: &Sets) -> Result<(), Fault>
         ensures ok { OnOk result (store self.new ≡ warmed (sets.now.reads ++ sets.now.writes) (store self.old)) }
         ensures err { OnErr result (store self.new ≡ store self.old) }
         ensures room { room self.old ≤ room self.new }
         ensures only { IsOkUnless result Fault.OutOfMemory }
-        ensures succeeds { cold ≡ false → IsOk result };
+        ensures succeeds { warm_grows cold (sets.now.reads ++ sets.now.writes) (store self.old) ≡ false → IsOk result };
 
     /// The row of a key goes to the cold table. Refused with `PointOpen` where a point is open, with `NoRow` where the key has
     /// no row that isn't cold, and with `NoColdTable` where there is no such table; else with `OutOfMemory` where a growth

@@ -1,6 +1,7 @@
 -- What one replica makes of a message or an event of its group's synods: its data after it, what it sends, and what its
 -- learner gives ("Paxos Made Simple", sections 2.2 and 2.3; one instance for each slot, section 3).
 --     slot_of message      which slot a message is about
+--     has_batch message      a batch is told with it
 --     message_grows message      what handles it keeps or sends more, so that memory may be wanting: all but a refusal
 --     Replica B      the data of one replica, by role
 --     Letters B      what is sent in one step: nothing, one message to one replica, or one to all
@@ -11,7 +12,7 @@
 --     replica_from records used      a replica that has these promises and votes and has used rounds up to this one, and nothing else
 --     restart x      what it is after a restart
 --     fresh      what it is at first
-use Rattle.std.specs.Prelude.{ℕ, Bool, true, false, ◌+◌, Option, Some, None, nat_lt, if◌then◌else◌, max}
+use Rattle.std.specs.Prelude.{ℕ, Bool, true, false, ◌+◌, Option, Some, None, is_some, nat_lt, if◌then◌else◌, max}
 use Rattle.std.specs.FinMap.{empty}
 use Rattle.calvin_types.specs.declared.place.Ballot.{Ballot}
 use Rattle.calvin_types.specs.declared.place.Slot.{Slot}
@@ -30,6 +31,12 @@ slot_of (Promise slot ballot vote) = slot
 slot_of (Accept slot ballot batch) = slot
 slot_of (Refused slot ballot promise) = slot
 slot_of (Accepted slot ballot batch) = slot
+
+abbrev pub has_batch : {B : Type 0} → Message B → Bool
+has_batch (Prepare slot ballot) = false
+has_batch (Promise slot ballot vote) = is_some vote
+has_batch (Refused slot ballot promise) = false
+has_batch _ = true
 
 -- where a message takes effect, a promise, a vote, a report or a count is kept, or a message is sent; a refusal raises a number alone
 abbrev pub message_grows : {B : Type 0} → Message B → Bool

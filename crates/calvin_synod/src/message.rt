@@ -1,6 +1,6 @@
 //! What the replicas of a group tell one another.
 ghost use Rattle.std.specs.Prelude.{◌≡◌, false, IfOk, IsOk, IsOkUnless};
-ghost use Rattle.calvin_synod.specs.Cases.{message_grows, slot_of};
+ghost use Rattle.calvin_synod.specs.Cases.{has_batch, message_grows, slot_of};
 
 use crate::vote::Vote;
 use calvin_types::{Ballot, Batch, Fault, Slot};
@@ -53,11 +53,13 @@ impl<Args: Copy> Message<Batch<Args>> {
         }
     }
 
-    /// A copy, whose batch shares the memory. Refused with `OutOfMemory` where the batch can have no more owners.
+    /// A copy, whose batch, if it has one, shares the memory. Refused with `OutOfMemory` where the batch can have no more
+    /// owners.
     pub fn copy(&self) -> Result<Message<Batch<Args>>, Fault>
         ensures ok { IfOk result (λ m. m ≡ self.now) }
         ensures only { IsOkUnless result Fault.OutOfMemory }
         ensures succeeds { message_grows self.now ≡ false → IsOk result }
+        ensures no_batch { has_batch self.now ≡ false → IsOk result }
     {
         Ok(self.clone()?)
     }

@@ -11,4 +11,6 @@ mod group;
 #[cfg(test)]
 mod plain;
 #[cfg(test)]
+mod scarce_roles;
+#[cfg(test)]
 mod synod;

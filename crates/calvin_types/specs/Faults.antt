@@ -3,7 +3,7 @@
 --     name_of fault      its name, as the codes of its letters
 use Rattle.std.specs.Prelude.{ℕ, List, codes}
 use Rattle.calvin_types.specs.declared.fault.Fault.{Fault}
-use Rattle.calvin_types.specs.declared.fault.Fault.TheVariants.{OutOfMemory, TooManyKeys, Repeated, BadConfig, TooLong, LocksOutOfOrder, NoKeys, NotHeld, RoundsSpent, NotCurrent, Known, NoBatch, QueueFull, EmptySets, TooManyAttempts, EpochsSpent, NotComplete, NotClosed, Decided, AdmittedOutOfOrder, NotReady, Begun, NotAwaited, ReadsMissing, NotCollected, StaleJob, NotServed, NothingToLock, NotAtEnd, Older, NotMine, PointTooLate, PointOpen, NoRow, NoPoints, NoColdTable, OrderChanged, NoNode, NoPacket, TooManyTries, TooWide, Unsettled, Stale, Closed, NoRun, BadWorkers, NotEnded, BadJson, BadScript, ScriptTooLong, ReadFailed, WriteFailed, NotExpected}
+use Rattle.calvin_types.specs.declared.fault.Fault.TheVariants.{OutOfMemory, TooManyKeys, Repeated, BadConfig, TooLong, LocksOutOfOrder, NoKeys, NotHeld, RoundsSpent, NotCurrent, Known, NoBatch, QueueFull, EmptySets, TooManyAttempts, EpochsSpent, NotComplete, NotClosed, Decided, AdmittedOutOfOrder, NotReady, Begun, NotAwaited, ReadsMissing, NotCollected, StaleJob, NotServed, NothingToLock, NotAtEnd, Older, NotMine, PointTooLate, PointOpen, NoRow, NoPoints, NoColdTable, OrderChanged, NoNode, NoPacket, TooManyTries, TooWide, Unsettled, Stale, Closed, NoRun, BadWorkers, NotEnded, BadJson, BadScript, ScriptTooLong, NotAJournal, JournalInUse, ReadFailed, WriteFailed, JournalFailed, NotExpected}
 
 -- the number of a fault, by which programs tell refusals apart
 abbrev pub number_of : Fault → ℕ
@@ -57,8 +57,11 @@ number_of NotEnded = 84
 number_of BadJson = 90
 number_of BadScript = 91
 number_of ScriptTooLong = 92
+number_of NotAJournal = 93
+number_of JournalInUse = 94
 number_of ReadFailed = 95
 number_of WriteFailed = 96
+number_of JournalFailed = 97
 number_of NotExpected = 100
 
 -- the name of a fault, as messages print it
@@ -113,6 +116,9 @@ name_of NotEnded = codes "NotEnded"
 name_of BadJson = codes "BadJson"
 name_of BadScript = codes "BadScript"
 name_of ScriptTooLong = codes "ScriptTooLong"
+name_of NotAJournal = codes "NotAJournal"
+name_of JournalInUse = codes "JournalInUse"
 name_of ReadFailed = codes "ReadFailed"
 name_of WriteFailed = codes "WriteFailed"
+name_of JournalFailed = codes "JournalFailed"
 name_of NotExpected = codes "NotExpected"

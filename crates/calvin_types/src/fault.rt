@@ -110,10 +110,17 @@ pub enum Fault {
     BadScript = 91,
     /// A script is longer than 1,048,576 bytes.
     ScriptTooLong = 92,
+    /// It is no file, or one that doesn't begin as a journal of this kind does, or a whole line of it is no epoch.
+    NotAJournal = 93,
+    /// Another process has the file open as its journal.
+    JournalInUse = 94,
     /// The reader failed.
     ReadFailed = 95,
     /// The writer failed, or took no byte.
     WriteFailed = 96,
+    /// A journal's file wasn't opened, or refused a call. It isn't to be asked again: what a refused sync leaves on the disk
+    /// isn't known.
+    JournalFailed = 97,
     /// What came out isn't what the script expects.
     NotExpected = 100,
 }
@@ -188,8 +195,11 @@ impl Fault {
             Fault::BadJson => "BadJson",
             Fault::BadScript => "BadScript",
             Fault::ScriptTooLong => "ScriptTooLong",
+            Fault::NotAJournal => "NotAJournal",
+            Fault::JournalInUse => "JournalInUse",
             Fault::ReadFailed => "ReadFailed",
             Fault::WriteFailed => "WriteFailed",
+            Fault::JournalFailed => "JournalFailed",
             Fault::NotExpected => "NotExpected",
         }
     }

@@ -1,8 +1,8 @@
 -- What grows nothing sends nothing.
-use Rattle.std.proofs.Common.{◌≡◌, Bool, true, false, cond, List, [], ◌++◌, None, sym, ap, ◌∙◌, max}
+use Rattle.std.proofs.Common.{◌≡◌, ℕ, Bool, true, false, cond, ◌&&◌, List, [], ◌∷◌, ◌++◌, length, None, refl, sym, ap, ◌∙◌, max, arith}
 use Rattle.std.specs.Prelude.{nat_lt}
 use Rattle.std.specs.FinMap.{get}
-use Rattle.std.proofs.lemmas.Bool.{false≢true}
+use Rattle.std.proofs.lemmas.Bool.{false≢true, lt-ltb}
 use Rattle.std.proofs.lemmas.Option.{same_Some}
 use Rattle.calvin_types.specs.declared.fault.Fault.TheVariants.{NotCurrent}
 use Rattle.calvin_types.specs.declared.place.NodeId.{NodeId}
@@ -24,7 +24,7 @@ use Rattle.calvin_bench.specs.Turns.{site_of}
 use Rattle.calvin_node_acts.specs.declared.act.Act.{Act}
 use Rattle.calvin_node_acts.specs.declared.act.Act.TheVariants.{Submit, SubmitCold, Cool, Close, Merge, Lock, Restart, Propose, Snapshot, Mark, Begin, Finish, AskForReads, AskForBatch}
 use Rattle.calvin_synod.specs.Cases.{message_grows}
-use Rattle.calvin_sched.specs.Scheduling.{is_read_here}
+use Rattle.calvin_sched.specs.Scheduling.{serves_others}
 use Rattle.calvin_node_acts.specs.Growing.{act_grows, content_grows}
 use Rattle.calvin_node_acts.specs.NodeStates.{NodeState}
 use Rattle.calvin_node_packets.specs.declared.packet.Packet.{Packet}
@@ -55,8 +55,13 @@ module _ {Args Row Reply : Type 0} (m : Meaning Args Row Reply) (config : Config
       let here : Site = site_of config.partitions x.id.partition in
       let turn = begun_turn here x.scheduler.store.map b.turn in
       let is : turn ≡ j = same_Some _ _ (sym (insert_here place_cmp place_total place_exact x.scheduler.turns q turn) ∙ ap (λ (s : Scheduling Args Row). get s.turns q) (sym b.now) ∙ has) in
-      let none : reads_here here j.request ≡ false = ap (λ (j : Turn Args Row). reads_here here j.request) (sym is) ∙ ap (is_read_here here) (sym b.has_turn) ∙ h in
-      f ∙ ap (λ (r : Bool). cond r (to_each {Args = Args} {Row = Row} {Reply = Reply} x.id x.id.replica (Reads q j.served) (other_active here j.request)) []) none
+      let none : (reads_here here j.request && nat_lt 0 (length (other_active here j.request))) ≡ false = ap (λ (j : Turn Args Row). reads_here here j.request && nat_lt 0 (length (other_active here j.request))) (sym is) ∙ ap (serves_others here) (sym b.has_turn) ∙ h in
+      f ∙ to_nobody (reads_here here j.request) (other_active here j.request) none
+    where
+      to_nobody : (r : Bool) (ps : List ℕ) → (r && nat_lt 0 (length ps)) ≡ false → cond r (to_each {Args = Args} {Row = Row} {Reply = Reply} x.id x.id.replica (Reads q j.served) ps) [] ≡ []
+      to_nobody true [] h = refl
+      to_nobody true (p ∷ ps) h = not_growing (sym (lt-ltb 0 (length (p ∷ ps)) (omega arith)) ∙ h)
+      to_nobody false ps h = refl
 
   message_silent : (from : NodeId) (message : Message (Batch Args)) → message_grows message ≡ false → Handles m config from (Synod message) x next sent → sent ≡ []
   message_silent from (Prepare slot ballot) h d = not_growing h
@@ -73,7 +78,7 @@ module _ {Args Row Reply : Type 0} (m : Meaning Args Row Reply) (config : Config
           λ i. synod_packets config.replicas x.id (sym quiet i) ++ telling config.partitions x.id (sym none i)
       go false does = absurd (cc)
 
-  pub content_silent : (from : NodeId) (content : Content Args Row Reply) → content_grows config content ≡ false → Handles m config from content x next sent → sent ≡ []
+  pub content_silent : (from : NodeId) (content : Content Args Row Reply) → content_grows config content x ≡ false → Handles m config from content x next sent → sent ≡ []
   content_silent from (Synod message) h d = message_silent from message h d
   content_silent from (Decided slot batch) h d = not_growing h
   content_silent from (AskBatch slot) h d = not_growing h

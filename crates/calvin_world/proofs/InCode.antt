@@ -228,7 +228,7 @@ module _ {Args Row Reply : Type 0} (m : Meaning Args Row Reply) (c : Config) (no
     acted_kept = kept (act_grows x.config act x.state) r (deed_of m x.config act x.state) packets all all did (At id act) acted
 
   module _ (number : ℕ) (p other : Packet Args Row Reply) (sent : slice_get packets number ≡ Some p) (to : p.to ≡ AtNode id) (r : Result (Unit {0}) Fault) (all : List (Packet Args Row Reply))
-      (did : NodeDid (content_grows x.config p.content) r (handle x.config p x.state) x y (slice_set packets number other) all) where
+      (did : NodeDid (content_grows x.config p.content x.state) r (handle x.config p x.state) x y (slice_set packets number other) all) where
     within : (xs : List (Packet Args Row Reply)) (k : ℕ) → slice_get xs k ≡ Some p → k < length xs
     within [] k at = absurd (cc)
     within (z ∷ zs) zero at = omega arith
@@ -238,11 +238,11 @@ module _ {Args Row Reply : Type 0} (m : Meaning Args Row Reply) (c : Config) (no
     delivered =
         subst (SettledStep m w (Deliver number) (outcome_of r)) (same_world (slice_set all number p))
         (delivery_called m w (steady m w reached) id x.state node_there number p sent to r y (slice_set all number p)
-        (put_back (content_grows c p.content) r (handle c p x.state) (record { config = c; state = x.state }) y packets all number other p sent (within packets number sent)
-        (subst (λ k. NodeDid (content_grows k p.content) r (handle k p x.state) (record { config = k; state = x.state }) y (slice_set packets number other) all) config_is did)))
+        (put_back (content_grows c p.content x.state) r (handle c p x.state) (record { config = c; state = x.state }) y packets all number other p sent (within packets number sent)
+        (subst (λ k. NodeDid (content_grows k p.content x.state) r (handle k p x.state) (record { config = k; state = x.state }) y (slice_set packets number other) all) config_is did)))
 
     pub delivered_kept : IsOpened c (slice_set nodes at y) × IsReached m (world_of c (slice_set nodes at y) (slice_set all number p))
-    delivered_kept = kept (content_grows x.config p.content) r (handle x.config p x.state) (slice_set packets number other) all (slice_set all number p) did (Deliver number) delivered
+    delivered_kept = kept (content_grows x.config p.content x.state) r (handle x.config p x.state) (slice_set packets number other) all (slice_set all number p) did (Deliver number) delivered
 
 -- ---- lists of events
 

@@ -39,3 +39,4 @@ pub mod Led
 pub mod InCode
 pub mod Refused
 pub mod Jobs
+pub mod Named

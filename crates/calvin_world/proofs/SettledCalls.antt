@@ -19,7 +19,7 @@ use Rattle.calvin_world.specs.declared.event.Event.{Event}
 use Rattle.calvin_world.specs.declared.event.Event.TheVariants.{At, Deliver}
 use Rattle.calvin_world.specs.declared.event.Outcome.{Outcome}
 use Rattle.calvin_world.specs.declared.event.Outcome.TheVariants.{Done, Refused}
-use Rattle.calvin_world.specs.Worlds.{WorldState, TakesEffect, index_of, node_at, carry_out, at_node, deliver_to, deliver, grows_at, grows_by, grows, happens}
+use Rattle.calvin_world.specs.Worlds.{WorldState, TakesEffect, index_of, node_at, carry_out, at_node, deliver_to, deliver, grows_at, grows_to, grows_by, grows, happens}
 use Rattle.calvin_world.specs.SettledWorlds.{settled_world, outcome_of, called, SettledStep}
 use Rattle.calvin_world.proofs.SettledEvents.{ending, carried, node_is_there}
 
@@ -45,6 +45,6 @@ module _ {Args Row Reply : Type 0} (m : Meaning Args Row Reply) (v : WorldState 
 
   -- a packet that is for this node
   pub delivery_called : (number : ℕ) (p : Packet Args Row Reply) → slice_get v.packets number ≡ Some p → p.to ≡ AtNode me → (result : Result (Unit {0}) Fault) (new : Running Args Row) (all : List (Packet Args Row Reply))
-      → NodeDid (content_grows v.config p.content) result (handle v.config p x) (record { config = v.config; state = x }) new v.packets all → SettledStep m v (Deliver number) (outcome_of result) (called v me new.state all)
+      → NodeDid (content_grows v.config p.content x) result (handle v.config p x) (record { config = v.config; state = x }) new v.packets all → SettledStep m v (Deliver number) (outcome_of result) (called v me new.state all)
   delivery_called number p sent to result new all did =
-      did_step (Deliver number) (content_grows v.config p.content) result (handle v.config p x) new all (ap (deliver v) sent ∙ ap (deliver_to v p) to ∙ ap (at_node v me (handle v.config p)) there) (λ much. ap (grows_by v.config) sent ∙ much) did
+      did_step (Deliver number) (content_grows v.config p.content x) result (handle v.config p x) new all (ap (deliver v) sent ∙ ap (deliver_to v p) to ∙ ap (at_node v me (handle v.config p)) there) (λ much. ap (grows_by v) sent ∙ ap (grows_to v p) to ∙ ap (grows_at (content_grows v.config p.content)) there ∙ much) did

@@ -20,19 +20,20 @@ use Rattle.calvin_bench.proofs.Lists.{set_each, set_map, map_twice, was_map}
 use Rattle.calvin_node_acts.specs.NodeStates.{NodeState, new_node}
 use Rattle.calvin_node_acts.specs.Handling.{NodeDeed, handle}
 use Rattle.calvin_node_acts.specs.Acting.{deed_of}
-use Rattle.calvin_node_acts.specs.Growing.{act_grows}
+use Rattle.calvin_node_acts.specs.Growing.{act_grows, content_grows}
 use Rattle.calvin_node_acts.specs.Running.{settled}
 use Rattle.calvin_node_packets.specs.declared.packet.Address.{Address}
 use Rattle.calvin_node_packets.specs.declared.packet.Address.TheVariants.{AtNode, AtClient}
+use Rattle.calvin_node_packets.specs.declared.packet.Content.{Content}
 use Rattle.calvin_node_packets.specs.declared.packet.Packet.{Packet}
 use Rattle.calvin_world.specs.declared.event.Event.{Event}
 use Rattle.calvin_world.specs.declared.event.Event.TheVariants.{At, Deliver}
 use Rattle.calvin_world.specs.declared.event.Outcome.{Outcome}
 use Rattle.calvin_world.specs.declared.event.Outcome.TheVariants.{Done, Refused}
-use Rattle.calvin_world.specs.Worlds.{WorldState, TakesEffect, index_of, opening, node_at, carry_out, at_node, deliver_to, deliver, grows_at, grows, happens, Step, Leads}
+use Rattle.calvin_world.specs.Worlds.{WorldState, TakesEffect, index_of, opening, node_at, carry_out, at_node, deliver_to, deliver, grows_at, grows_to, grows_by, grows, happens, Step, Leads}
 use Rattle.calvin_world.specs.SettledWorlds.{settled_world, settles, SettledStep, SettledLeads}
 use Rattle.calvin_world.proofs.NonePast.{NonePast, acts_none, handled_none}
-use Rattle.calvin_world.proofs.SettledNodes.{settled_twice, settled_deed, acts_same, handled_same, act_grows_same}
+use Rattle.calvin_world.proofs.SettledNodes.{settled_twice, settled_deed, acts_same, handled_same, act_grows_same, content_grows_same}
 
 module _ {Args Row Reply : Type 0} where
   -- in no node anything is admitted past the last place
@@ -103,7 +104,19 @@ module _ {Args Row Reply : Type 0} where
       go : (o : Option (NodeState Args Row)) → grows_at (act_grows w.config act) (option_map settled o) ≡ grows_at (act_grows w.config act) o
       go None = refl
       go (Some x) = act_grows_same w.config x act
-  grows_same w (Deliver number) = refl
+  grows_same w (Deliver number) = by_packet (slice_get w.packets number)
+    where
+      by_node : (content : Content Args Row Reply) (o : Option (NodeState Args Row)) → grows_at (content_grows w.config content) (option_map settled o) ≡ grows_at (content_grows w.config content) o
+      by_node content None = refl
+      by_node content (Some x) = content_grows_same w.config x content
+
+      by_address : (p : Packet Args Row Reply) (to : Address) → grows_to (settled_world w) p to ≡ grows_to w p to
+      by_address p (AtNode id) = ap (grows_at (content_grows w.config p.content)) (settled_there w id) ∙ by_node p.content (node_at w id)
+      by_address p (AtClient client) = refl
+
+      by_packet : (o : Option (Packet Args Row Reply)) → grows_by (settled_world w) o ≡ grows_by w o
+      by_packet None = refl
+      by_packet (Some p) = by_address p p.to
 
   -- ---- nothing is admitted past the last place
 

@@ -1,7 +1,7 @@
 -- What an event makes of a settled node is what it makes of the node, settled.
 --     settled_deed deed      the deed, with the node after it settled
 --     acts_same, handled_same      an act, and a packet
---     act_grows_same      an act grows something at both or at none
+--     act_grows_same, content_grows_same      an act grows something at both or at none;  so does what a packet says
 --     all_done_same      both are done at the same ends
 use Rattle.std.proofs.Common.{◌≡◌, ℕ, suc, Bool, true, false, cond, not, ◌&&◌, List, [], ◌∷◌, ◌++◌, Option, Some, None, Result, Ok, Err, refl, sym, ap, subst, ◌∙◌}
 use Rattle.std.proofs.lemmas.List.Elements.{filter-append}
@@ -41,7 +41,7 @@ use Rattle.calvin_node_packets.specs.Packets.{is_for}
 use Rattle.calvin_node_acts.specs.Handling.{NodeDeed, counted, by_synod, on_vote, on_synod, on_decided, on_ask_batch, by_scheduler, serve_again, on_ask_reads, handle_content, handle}
 use Rattle.calvin_node_acts.specs.Acting as node
 use Rattle.calvin_node_acts.specs.Acting.{deed_of}
-use Rattle.calvin_node_acts.specs.Growing.{act_grows}
+use Rattle.calvin_node_acts.specs.Growing.{act_grows, content_grows}
 use Rattle.calvin_node_acts.specs.Running.{settled}
 use Rattle.calvin_node_packets.specs.declared.packet.Packet.{Packet}
 use Rattle.calvin_node_packets.specs.declared.packet.Address.TheVariants.{AtNode, AtClient}
@@ -71,6 +71,15 @@ module _ {Args Row : Type 0} where
   act_grows_same c x (Finish q) = refl
   act_grows_same c x (AskForReads q r) = refl
   act_grows_same c x (AskForBatch slot of) = refl
+
+  pub content_grows_same : {Reply : Type 0} (c : Config) (x : NodeState Args Row) (content : Content Args Row Reply) → content_grows c content (settled x) ≡ content_grows c content x
+  content_grows_same c x (Synod message) = refl
+  content_grows_same c x (Decided slot batch) = refl
+  content_grows_same c x (AskBatch slot) = refl
+  content_grows_same c x (Reads q rows) = refl
+  content_grows_same c x (AskReads q) = refl
+  content_grows_same c x (Warm sets) = refl
+  content_grows_same c x (Replies q id attempt answer) = refl
 
   -- ---- standing
 

@@ -78,15 +78,20 @@ module _ {Args Row Reply : Type 0} where
   deliver w None = (Refused NoPacket, w)
   deliver w (Some p) = deliver_to w p p.to
 
-  -- the packet grows something, if it is there
-  abbrev pub grows_by : Config → Option (Packet Args Row Reply) → Bool
-  grows_by c None = false
-  grows_by c (Some p) = content_grows c p.content
+  -- what a packet says grows something at the node that it is for, if that is there
+  abbrev pub grows_to : WorldState Args Row Reply → Packet Args Row Reply → Address → Bool
+  grows_to w p (AtNode id) = grows_at (content_grows w.config p.content) (node_at w id)
+  grows_to w p (AtClient client) = false
+
+  -- the same of a packet that may not be there
+  abbrev pub grows_by : WorldState Args Row Reply → Option (Packet Args Row Reply) → Bool
+  grows_by w None = false
+  grows_by w (Some p) = grows_to w p p.to
 
   -- where an event takes effect, it grows something
   abbrev pub grows : WorldState Args Row Reply → Event Args → Bool
   grows w (At me act) = grows_at (act_grows w.config act) (node_at w me)
-  grows w (Deliver number) = grows_by w.config (slice_get w.packets number)
+  grows w (Deliver number) = grows_by w (slice_get w.packets number)
 
   module _ (m : Meaning Args Row Reply) where
     -- how an event ends, and the world after it

@@ -4,6 +4,7 @@
 
 mod agreement;
 mod event;
+mod naming;
 mod opening;
 mod order;
 mod serial;
@@ -14,6 +15,7 @@ mod world;
 
 pub use agreement::{chosen_stays, chosen_was_submitted, given_is_held, nodes_agree, stands_later};
 pub use event::{Event, Outcome};
+pub use naming::PacketName;
 pub use opening::{nodes_are_there, opening_is_restart};
 pub use order::{all_are_woven, kept_order_same_rows};
 pub use serial::{points_are_serial, replicas_are_serial, standing_alike};
@@ -28,4 +30,4 @@ pub use worked::{
     refused_events, refused_over_a_point, refused_without_tables, reply_not_deliverable,
     restart_between_phases, snapshot_by_a_point, snapshot_then_restart, snapshot_without_mark,
 };
-pub use world::{StoreWorld, World, outcome_of};
+pub use world::{StoreWorld, World, id_at, outcome_of};

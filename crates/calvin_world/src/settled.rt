@@ -63,7 +63,7 @@ pub fn settled_calls<Args, Row, Reply>()
         → SettledStep m v (At me act) (outcome_of result) (called v me new.state all) }
     ensures packets { (m : Meaning Args Row Reply) (v : WorldState Args Row Reply) → settled_world v ≡ v → (me : NodeId) (x : NodeState Args Row) → node_at v me ≡ Some x
         → (number : ℕ) (p : Packet Args Row Reply) → slice_get v.packets number ≡ Some p → p.to ≡ AtNode me
-        → (result : Result (Unit {0}) Fault) (new : Running Args Row) (all : List (Packet Args Row Reply)) → NodeDid (content_grows v.config p.content) result (handle v.config p x) (record { config = v.config; state = x }) new v.packets all
+        → (result : Result (Unit {0}) Fault) (new : Running Args Row) (all : List (Packet Args Row Reply)) → NodeDid (content_grows v.config p.content x) result (handle v.config p x) (record { config = v.config; state = x }) new v.packets all
         → SettledStep m v (Deliver number) (outcome_of result) (called v me new.state all) }
 {}
 

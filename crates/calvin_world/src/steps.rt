@@ -37,5 +37,5 @@ pub fn pending_can_be_locked<A: App>()
 /// An act that grows nothing sends nothing where it takes effect; nor does a node send anything on a packet that grows nothing.
 pub fn what_grows_nothing_is_silent<Args, Row, Reply>()
     ensures acts { (m : Meaning Args Row Reply) (c : Config) (x next : NodeState Args Row) (sent : List (Packet Args Row Reply)) (act : Act Args) → act_grows c act x ≡ false → deed_of m c act x ≡ Does next sent → sent ≡ [] }
-    ensures packets { (m : Meaning Args Row Reply) (c : Config) (x next : NodeState Args Row) (sent : List (Packet Args Row Reply)) (from : NodeId) (content : Content Args Row Reply) → content_grows c content ≡ false → ◌≡◌ {A = NodeDeed Args Row Reply} (handle_content c from content x) (Does next sent) → sent ≡ [] }
+    ensures packets { (m : Meaning Args Row Reply) (c : Config) (x next : NodeState Args Row) (sent : List (Packet Args Row Reply)) (from : NodeId) (content : Content Args Row Reply) → content_grows c content x ≡ false → ◌≡◌ {A = NodeDeed Args Row Reply} (handle_content c from content x) (Does next sent) → sent ≡ [] }
 {}

@@ -256,7 +256,7 @@ pub fn outcome_of(answer: Result<(), Fault>) -> Outcome
 }
 
 /// The name of the node that stands at a place among all.
-fn id_at(config: &Config, at: usize) -> NodeId
+pub fn id_at(config: &Config, at: usize) -> NodeId
     requires { at < config.now.replicas * config.now.partitions }
     ensures { result ≡ record { replica = at / config.now.partitions; partition = at % config.now.partitions } }
 {

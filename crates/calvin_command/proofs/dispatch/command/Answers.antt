@@ -1,6 +1,8 @@
 use Rattle.std.proofs.Common.{arith, map, subst, Ok}
 use Rattle.calvin_command.specs.declared.wishes.Wish.{Wish}
 use Rattle.calvin_command.specs.Line.{IsRun, IsSim}
+use Rattle.calvin_command.proofs.Helped.{is_covered}
+use Rattle.calvin_command.proofs.Named.{is_taken_line}
 use Rattle.calvin_command.proofs.Schedules.{asked_of}
 use Rattle.calvin_command.proofs.Teams.{team_asked}
 use Rattle.calvin_command.proofs.Words.{is_check_line, is_plain_line, is_run_line, is_scout_line, is_sim_line}
@@ -55,6 +57,12 @@ returns-in-Ok-Run-clause-run g c line =
     let words = map g.W.AsStr.text c.args.words.now in
     (c.in-Ok-Run.team, subst (λ (w : Wish). IsRun words (Ok w)) c.in-Ok-Run.field-0-is (c.in-Ok-Run.ensures.run line), c.run_cluster.ensures.run)
 
+pub returns-in-Ok-Help-clause-taken : goal.returns-in-Ok-Help-clause-taken
+returns-in-Ok-Help-clause-taken g c = is_taken_line (map g.W.AsStr.text c.args.words.now)
+
+pub returns-in-Ok-Help-clause-covered : goal.returns-in-Ok-Help-clause-covered
+returns-in-Ok-Help-clause-covered g c = is_covered (map g.W.AsStr.text c.args.words.now)
+
 pub returns-in-Ok-Help-clause-plain_check : goal.returns-in-Ok-Help-clause-plain_check
 returns-in-Ok-Help-clause-plain_check g c = is_check_line (map g.W.AsStr.text c.args.words.now)
 
@@ -64,6 +72,12 @@ returns-in-Ok-Help-clause-plain_sim g c = is_sim_line (map g.W.AsStr.text c.args
 pub returns-in-Ok-Help-clause-plain_run : goal.returns-in-Ok-Help-clause-plain_run
 returns-in-Ok-Help-clause-plain_run g c = is_run_line (map g.W.AsStr.text c.args.words.now)
 
+pub returns-in-Err-BadLine-clause-taken : goal.returns-in-Err-BadLine-clause-taken
+returns-in-Err-BadLine-clause-taken g c = is_taken_line (map g.W.AsStr.text c.args.words.now)
+
+pub returns-in-Err-BadLine-clause-covered : goal.returns-in-Err-BadLine-clause-covered
+returns-in-Err-BadLine-clause-covered g c = is_covered (map g.W.AsStr.text c.args.words.now)
+
 pub returns-in-Err-BadLine-clause-plain_check : goal.returns-in-Err-BadLine-clause-plain_check
 returns-in-Err-BadLine-clause-plain_check g c = is_check_line (map g.W.AsStr.text c.args.words.now)
 
@@ -72,6 +86,12 @@ returns-in-Err-BadLine-clause-plain_sim g c = is_sim_line (map g.W.AsStr.text c.
 
 pub returns-in-Err-BadLine-clause-plain_run : goal.returns-in-Err-BadLine-clause-plain_run
 returns-in-Err-BadLine-clause-plain_run g c = is_run_line (map g.W.AsStr.text c.args.words.now)
+
+pub returns-in-Err-OutOfMemory-clause-taken : goal.returns-in-Err-OutOfMemory-clause-taken
+returns-in-Err-OutOfMemory-clause-taken g c = is_taken_line (map g.W.AsStr.text c.args.words.now)
+
+pub returns-in-Err-OutOfMemory-clause-covered : goal.returns-in-Err-OutOfMemory-clause-covered
+returns-in-Err-OutOfMemory-clause-covered g c = is_covered (map g.W.AsStr.text c.args.words.now)
 
 pub returns-in-Err-OutOfMemory-clause-plain_check : goal.returns-in-Err-OutOfMemory-clause-plain_check
 returns-in-Err-OutOfMemory-clause-plain_check g c = is_check_line (map g.W.AsStr.text c.args.words.now)

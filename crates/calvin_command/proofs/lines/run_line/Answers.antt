@@ -2,7 +2,7 @@ use Rattle.std.proofs.Common.{rules, codes}
 use Rattle.std.proofs.lemmas.Result.{IfOk-weaker}
 use Rattle.clap.specs.Words.{new_app, with_rule}
 use Rattle.calvin_command.specs.Line.{replicas_option}
-use Rattle.calvin_command.proofs.Words.{AddsTo, added}
+use Rattle.calvin_options.proofs.Added.{AddsTo, added}
 use Rattle.calvin_command.proofs.lines.run_line.Goals as goal
 
 none_yet : (c : goal.After-arg-2) → AddsTo (new_app (codes "run")) c.after_help.result

@@ -1,7 +1,7 @@
 use Rattle.std.proofs.Common.{refl, sym, subst, List}
 use Rattle.clap.specs.Words.{Row, subcommand_rows_of}
 use Rattle.calvin_command.specs.Line.{IsScheduleOf, IsTeamOf}
-use Rattle.calvin_command.proofs.Words.{same_rows}
+use Rattle.calvin_options.proofs.Subcommands.{same_rows}
 use Rattle.calvin_command.proofs.wishes.wish_of.Goals as goal
 
 pub returns-in-Some-subcommand_matches-clause-sim : goal.returns-in-Some-subcommand_matches-clause-sim

@@ -27,7 +27,7 @@ returns-clause-told g c =
     let lines = c.in_ok-push_replies.ensures ∙ (λ i. c.new-text.ensures.items i ++ reply_lines show (of_epochs (UpTo (last i)) (replies i))) in
     let chosen = laws.chosen log.config log.events (done_each log.events) w c.world-world.ensures.run in
     let told = laws.finished log.config log.events (done_each log.events) w c.world-world.ensures.run chosen.0 chosen.1 show in
-    let end = laws.last log.config log.events (done_each log.events) w c.world-world.ensures.run in
+    let end = laws.last (least_standing w) in
     is_told g.A.App.meaning show w (world_after g.A.App.meaning log.config log.events) c.push_last.new.text.items
     (reply_lines show (of_epochs (UpTo (least_standing w)) (entries (replied w.packets)))) (finished_at (least_standing w)) chosen.0 c.world-world.ensures.after chosen.1
     (c.in_ok-push_last.ensures ∙ (λ i. lines i ++ finished_at (last i))) (λ i. told i ++ end i)

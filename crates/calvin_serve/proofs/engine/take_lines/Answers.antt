@@ -1,4 +1,4 @@
-use Rattle.std.proofs.Common.{ℕ, ◌≡◌, ◌∷◌, List, sym, ◌∙◌, ap}
+use Rattle.std.proofs.Common.{ℕ, ◌≡◌, ◌∷◌, List, refl, sym, ◌∙◌, ap}
 use Rattle.calvin_serve_input.specs.Inputs.{coming}
 use Rattle.calvin_serve.proofs.Steps.{ok_then, err_then, ends_here}
 use Rattle.calvin_serve.proofs.Taking.{takes_none, takes_one, takes_so, ends_at, ends_so_far}
@@ -12,6 +12,8 @@ lines-init g c =
     record {
       takes = takes_none m show grammar c.args.input.now c.args.sitting (g.K.Sink.taken c.args.sink.now);
       most = λ i. c.args.input.now.most;
+      log = refl;
+      sink = refl;
     }
 
 pub lines-preserved : goal.lines-preserved
@@ -28,6 +30,8 @@ lines-preserved g c =
           takes_one m show grammar c.args.input.now c.args.sitting out_before c.lines.input c.lines.sitting out_now c.lines.invariant.takes c.next_line.new.self c.deref.result.now read
           c.in-Ok.taken (g.K.Sink.taken c.take_line.new.sink) c.in-Ok.ensures.ok;
       most = c.in-Ok-true.ensures.most ∙ c.lines.invariant.most;
+      log = c.in-Ok.ensures.no_failure.0 ∙ c.lines.invariant.log;
+      sink = c.in-Ok.ensures.no_failure.1 ∙ c.lines.invariant.sink;
     }
 
 pub returns-in-Err-take_line-clause-err : goal.returns-in-Err-take_line-clause-err

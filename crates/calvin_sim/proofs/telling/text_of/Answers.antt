@@ -15,7 +15,7 @@ replies_of-requires g c = packet_of (lone g.row.A-Args.mir) (lone g.row.A-Row.mi
 
 pub returns-clause-text : goal.returns-clause-text
 returns-clause-text g c =
-    let last = c.finished-last.ensures in
+    let last = c.finished_but-last.ensures in
     let replies = c.in_ok-replies.ensures.ok ∙ ap (λ packets. entries (replied packets)) c.packets.ensures in
     let told = c.in_ok-push_replies.ensures ∙ (λ i. c.new-text.ensures.items i ++ reply_lines g.A.Reply.Printed.printed (of_epochs (UpTo (last i)) (replies i))) in
     c.in_ok-push_last.ensures ∙ (λ i. told i ++ finished_at (last i))

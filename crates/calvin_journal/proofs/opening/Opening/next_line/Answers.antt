@@ -1,6 +1,6 @@
-use Rattle.std.proofs.Common.{◌≡◌, ◌∷◌, ◌++◌, [], true, false, ap, sym, subst, Option, IfSome, IfOk, drop, option_map}
+use Rattle.std.proofs.Common.{◌≡◌, [], true, false, ap, sym, subst, Option, IfSome, IfOk, drop, option_map}
 use Rattle.calvin_journal_log.specs.Disks.{Disk}
-use Rattle.calvin_journal.specs.Readings.{Lines, part_at, lines_at}
+use Rattle.calvin_journal.specs.Readings.{Lines, HandsOut, part_at, lines_at}
 use Rattle.calvin_journal.proofs.Additions.{IsWhole, still_whole, handed_line, no_line_ahead}
 use Rattle.calvin_journal.proofs.opening.Opening.next_line.Goals as goal
 
@@ -18,10 +18,9 @@ returns-clause-line g c =
     let line = c.next_line.new.line.items in
     let new = c.next_line.new.self in
     let handed = handed_line line reader.done new.done (g.L.Log.told reader.log) c.next_line.result c.self.invariant c.next_line.ensures.line c.next_line.ensures.one_line in
-    let after = subst (λ (o : Option Disk). IfOk c.next_line.result (λ more. more ≡ true → IfSome (option_map (λ d. lines_at (part_at reader.done d)) (g.L.Log.told reader.log)) (λ old.
-    IfSome (option_map (λ d. lines_at (part_at new.done d)) o) (λ next. (old.ahead ≡ line ∷ next.ahead) × (next.done ≡ old.done ++ line ∷ []))))) (sym c.next_line.ensures.told) handed in
-    subst (λ (o : Option Lines). IfOk c.next_line.result (λ more. more ≡ true → IfSome o (λ old.
-    IfSome (option_map (λ d. lines_at (part_at new.done d)) (g.L.Log.told new.log)) (λ next. (old.ahead ≡ line ∷ next.ahead) × (next.done ≡ old.done ++ line ∷ []))))) (ap (λ p. p.lines) c.self.view_is) after
+    let after = subst (λ (o : Option Disk). IfOk c.next_line.result (λ more. more ≡ true → HandsOut line (option_map (λ d. lines_at (part_at reader.done d)) (g.L.Log.told reader.log))
+    (option_map (λ d. lines_at (part_at new.done d)) o))) (sym c.next_line.ensures.told) handed in
+    subst (λ (o : Option Lines). IfOk c.next_line.result (λ more. more ≡ true → HandsOut line o (option_map (λ d. lines_at (part_at new.done d)) (g.L.Log.told new.log)))) (ap (λ p. p.lines) c.self.view_is) after
 
 pub returns-clause-end : goal.returns-clause-end
 returns-clause-end g c =

@@ -2,6 +2,7 @@ use Rattle.std.proofs.Common.{refl, subst, sym, ap, ◌∙◌}
 use Rattle.std.proofs.lemmas.Bool.{false≢true}
 use Rattle.std.specs.FinMap as map
 use Rattle.calvin_lock.specs.Ready.{IsReady}
+use Rattle.calvin_lock.specs.Queues.{AreQueues}
 use Rattle.calvin_lock.proofs.QueuedSteps.{ready_iff, before_release, after_release, mid_release, leaves_written, leaves_read, taken_waits, released, released_map}
 use Rattle.calvin_lock.proofs.queue_locks.QueueLocksLocks.release.Goals as goal
 
@@ -20,10 +21,11 @@ invariant_of-self c =
     let mid = mid_release qs u last k c.args.place h n ready c.new.result c.new.ensures in
     let written = leaves_written qs u last k c.args.place h n ready c.new.result c.new.ensures in
     let read = leaves_read qs u last k c.args.place h n ready c.new.result c.new.ensures in
-    let half = c.leave.ensures.queues before after k.asked written in
-    let waits = c.leave-in-Some.ensures.waits mid after half read (c.leave.ensures.waits before after k.asked written (taken_waits qs u last k c.args.place h n ready c.new.result c.new.ensures c.take.new.self.places.entries gone)) in
+    let half = c.leave.ensures.queues before after k.asked.served written in
+    let tidy : AreQueues mid c.leave.new.self.queues.entries = record { served = half; nobody = c.leave.ensures.nobody before after k.asked written } in
+    let waits = c.leave-in-Some.ensures.waits mid after half read (c.leave.ensures.waits before after k.asked.served written (taken_waits qs u last k c.args.place h n ready c.new.result c.new.ensures c.take.new.self.places.entries gone)) in
     released qs u last k c.args.place h n ready c.new.result c.new.ensures c.take.new.self.places.entries gone c.leave-in-Some.new.unreleased
-    (λ q. c.leave-in-Some.ensures.sets q ∙ c.leave.ensures.sets q) (c.leave-in-Some.ensures.order ∙ c.leave.ensures.order ∙ c.take.ensures.order) c.leave-in-Some.new.self.queues.entries c.leave-in-Some.ensures.kept (c.leave-in-Some.ensures.queues mid after half read) waits
+    (λ q. c.leave-in-Some.ensures.sets q ∙ c.leave.ensures.sets q) (c.leave-in-Some.ensures.order ∙ c.leave.ensures.order ∙ c.take.ensures.order) c.leave-in-Some.new.self.queues.entries c.leave-in-Some.ensures.kept (record { served = c.leave-in-Some.ensures.queues mid after half read; nobody = c.leave-in-Some.ensures.nobody mid after tidy read }) waits
 
 pub returns-in-Some-clause-ok : goal.returns-in-Some-clause-ok
 returns-in-Some-clause-ok c =

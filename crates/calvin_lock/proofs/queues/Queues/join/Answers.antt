@@ -13,6 +13,7 @@ loop-i-preserved-then-has c =
       kept = λ asks queues. same_asks _ _ c.loop-i.self.queues.entries (λ k. ap (λ b. asks k ++ ask_if c.args.place c.args.kind b) (sym (same k))) (c.loop-i.invariant.kept asks queues);
       waits = c.loop-i.invariant.waits;
       room = λ k other free. c.loop-i.invariant.room k other (sym (same k) ∙ free);
+      none_new = c.loop-i.invariant.none_new;
       few = (let few = c.loop-i.invariant.few in omega (arith, few));
     }
 
@@ -40,6 +41,7 @@ loop-i-preserved c =
       room = λ k other unasked room.
           let apart = asked_apart c.args.keys.now c.args.except.now c.loop-i.i c.at-key.result c.at-key.ensures free k unasked in
           c.join_key.ensures.room k other apart (c.loop-i.invariant.room k other (sym (asked_other c.args.keys.now c.args.except.now c.loop-i.i c.at-key.result c.at-key.ensures k apart) ∙ unasked) room);
+      none_new = λ k none. c.join_key.ensures.none_new k (c.loop-i.invariant.none_new k none);
       few = (let few = c.loop-i.invariant.few in let one = at_most_one c.join_key.result in omega (arith, few, one, counted));
     }
 

@@ -4,7 +4,7 @@ use Rattle.calvin_types.specs.SameKeys.{equal_keys}
 use Rattle.calvin_types.specs.SameKeysLaws.{equal_keys_self}
 use Rattle.calvin_lock.specs.declared.queue.Queue.{Queue}
 use Rattle.calvin_lock.specs.Queues.{IsQueueAt, waits_in, waits_of}
-use Rattle.calvin_lock.proofs.QueueMaps.{changed, queue_found}
+use Rattle.calvin_lock.proofs.QueueMaps.{changed, queue_found, none_is_new}
 use Rattle.calvin_lock.proofs.queues.Queues.join_key.Goals as goal
 
 pub returns-in-Some-clause-kept : goal.returns-in-Some-clause-kept
@@ -28,3 +28,10 @@ returns-in-Some-clause-waits c = λ q.
     let now = ap (waits_of q) writes.0 in
     let one = c.join.ensures.waiting q in
     omega (arith, sum, now, one)
+
+pub returns-in-Some-clause-none_new : goal.returns-in-Some-clause-none_new
+returns-in-Some-clause-none_new c =
+    let w = c.join.new.self in
+    let writes = c.get_mut.follows.holds w in
+    let found = sym c.in-Some.ensures.value in
+    none_is_new c.args.self.now.queues.entries (c.get_mut.follows.lender w).entries c.args.key (Some w) (writes.3 (ap is_some found)).0 c.in-Some.queue.now found

@@ -3,7 +3,7 @@ use Rattle.calvin_types.specs.declared.key.Key.{Key}
 use Rattle.calvin_lock.specs.declared.queue.Ask.{Ask}
 use Rattle.calvin_lock.specs.Queues.{asked}
 use Rattle.calvin_lock.proofs.AskedKeys.{asked_passed, asked_all, asked_whole}
-use Rattle.calvin_lock.proofs.QueueMaps.{same_asks, next_leaves}
+use Rattle.calvin_lock.proofs.QueueMaps.{same_asks, next_leaves, next_nobody}
 use Rattle.calvin_lock.proofs.Waits.{waits_alike}
 use Rattle.calvin_lock.proofs.queues.Queues.leave.Goals as goal
 
@@ -16,6 +16,7 @@ loop-i-preserved-then-has c =
       sets = c.loop-i.invariant.sets;
       order = c.loop-i.invariant.order;
       queues = λ before after queues leaves. same_asks _ _ c.loop-i.self.queues.entries (λ k. ap (λ b. cond b (after k) (before k)) (sym (same k))) (c.loop-i.invariant.queues before after queues leaves);
+      nobody = λ before after queues leaves k none. c.loop-i.invariant.nobody before after queues leaves k (ap (λ b. cond b (after k) (before k)) (sym (same k)) ∙ none);
       waits = c.loop-i.invariant.waits;
     }
 
@@ -36,6 +37,9 @@ loop-i-preserved c =
       order = c.pass_on.ensures.order ∙ c.loop-i.invariant.order;
       queues = λ before after queues leaves. c.drop_empty.ensures.kept (next before after)
           (c.pass_on.ensures.queues (mid before after) (next before after) (c.loop-i.invariant.queues before after queues leaves) (next_leaves keys except i key c.at-key.ensures c.len-i-end.ensures.rising free before after (leaves key there)));
+      nobody = λ before after queues leaves. next_nobody keys except i key c.at-key.ensures c.len-i-end.ensures.rising free before after c.loop-i.self.queues.entries c.pass_on.new.self.queues.entries c.drop_empty.new.self.queues.entries
+          (c.loop-i.invariant.nobody before after queues leaves) c.pass_on.ensures.none_new c.drop_empty.ensures.none_new
+          (c.drop_empty.ensures.gone (next before after) (c.pass_on.ensures.queues (mid before after) (next before after) (c.loop-i.invariant.queues before after queues.served leaves) (next_leaves keys except i key c.at-key.ensures c.len-i-end.ensures.rising free before after (leaves key there))));
       waits = λ before after queues leaves waits. waits_alike _ _ c.pass_on.new.unreleased.places.entries
           (λ q. sym (c.drop_empty.ensures.waits (next before after) (c.pass_on.ensures.queues (mid before after) (next before after) (c.loop-i.invariant.queues before after queues leaves) (next_leaves keys except i key c.at-key.ensures c.len-i-end.ensures.rising free before after (leaves key there))) q))
           (c.pass_on.ensures.waits (c.loop-i.invariant.waits before after queues leaves waits));
@@ -43,3 +47,6 @@ loop-i-preserved c =
 
 pub returns-clause-queues : goal.returns-clause-queues
 returns-clause-queues c = λ before after queues leaves. same_asks _ _ c.loop-i.self.queues.entries (λ k. ap (λ b. cond b (after k) (before k)) (asked_all c.args.keys.now c.args.except.now c.loop-i.i (omega (arith, c.loop-i-test.false, c.len-i-end.ensures.len)) k)) (c.loop-i.invariant.queues before after queues leaves)
+
+pub returns-clause-nobody : goal.returns-clause-nobody
+returns-clause-nobody c = λ before after queues leaves k none. c.loop-i.invariant.nobody before after queues leaves k (ap (λ b. cond b (after k) (before k)) (asked_all c.args.keys.now c.args.except.now c.loop-i.i (omega (arith, c.loop-i-test.false, c.len-i-end.ensures.len)) k) ∙ none)

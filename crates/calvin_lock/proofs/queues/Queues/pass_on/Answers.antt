@@ -7,7 +7,7 @@ use Rattle.calvin_lock.specs.Queues.{IsQueueOf, waits_in, waits_of, holder_count
 use Rattle.calvin_lock.specs.Unreleased.{WaitsFor}
 use Rattle.calvin_lock.proofs.Entries.{sum_least}
 use Rattle.calvin_lock.proofs.QueueLists.{count_without}
-use Rattle.calvin_lock.proofs.QueueMaps.{changed, queue_found, fits_set, nobody_leaves, left_queue}
+use Rattle.calvin_lock.proofs.QueueMaps.{changed, queue_found, fits_set, nobody_leaves, left_queue, none_is_new}
 use Rattle.calvin_lock.proofs.Waits.{waits_alike}
 use Rattle.calvin_lock.proofs.queues.Queues.pass_on.Goals as goal
 
@@ -59,3 +59,10 @@ returns-in-Some-clause-waits c = λ waits.
 pub returns-in_default-clause-queues : goal.returns-in_default-clause-queues
 returns-in_default-clause-queues c = λ before after queues leaves.
     absurd (nobody_leaves (before c.args.key) (after c.args.key) leaves.0 (queue_found before c.args.self.now.queues.entries c.args.key None queues (sym c.in_default.ensures.value)))
+
+pub returns-in-Some-clause-none_new : goal.returns-in-Some-clause-none_new
+returns-in-Some-clause-none_new c =
+    let w = c.settle.new.queue in
+    let writes = c.get_mut.follows.holds w in
+    let found = sym c.in-Some.ensures.value in
+    none_is_new c.args.self.now.queues.entries (c.get_mut.follows.lender w).entries c.args.key (Some w) (writes.3 (ap is_some found)).0 c.in-Some.queue.now found

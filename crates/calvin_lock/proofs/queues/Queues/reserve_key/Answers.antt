@@ -5,7 +5,7 @@ use Rattle.calvin_lock.specs.declared.queue.Queue.{Queue}
 use Rattle.calvin_lock.specs.Queues.{IsQueueAt, queue_at, waits_in, waits_of}
 use Rattle.indexmap.specs.IndexMap.{insert_entry}
 use Rattle.calvin_lock.proofs.Entries.{sum_new}
-use Rattle.calvin_lock.proofs.QueueMaps.{changed, queue_found, same_queue, room_kept, room_new}
+use Rattle.calvin_lock.proofs.QueueMaps.{changed, queue_found, same_queue, none_other, room_kept, room_new}
 use Rattle.calvin_lock.proofs.queues.Queues.reserve_key.Goals as goal
 
 pub returns-in-Some-clause-kept : goal.returns-in-Some-clause-kept
@@ -61,3 +61,15 @@ returns-clause-room c =
     let w = c.reserve-2.new.self in
     room_new c.args.self.now.queues.entries c.insert.new.self.entries c.args.key w
     (λ k. c.in_ok-insert.ensures.updates.0 k ∙ ap (λ m. cond (equal_keys c.args.key k) (Some w) (queue_at m.entries k)) c.get_mut.follows.holds-at-none) (sym c.in_default.ensures.value)
+
+pub returns-in-Some-clause-others : goal.returns-in-Some-clause-others
+returns-in-Some-clause-others c =
+    let w = c.reserve.new.self in
+    let writes = c.get_mut.follows.holds w in
+    none_other c.args.self.now.queues.entries (c.get_mut.follows.lender w).entries c.args.key (Some w) (writes.3 (ap is_some (sym c.in-Some.ensures.value))).0
+
+pub returns-clause-others : goal.returns-clause-others
+returns-clause-others c =
+    let w = c.reserve-2.new.self in
+    none_other c.args.self.now.queues.entries c.insert.new.self.entries c.args.key (Some w)
+    (λ k. c.in_ok-insert.ensures.updates.0 k ∙ ap (λ m. cond (equal_keys c.args.key k) (Some w) (queue_at m.entries k)) c.get_mut.follows.holds-at-none)

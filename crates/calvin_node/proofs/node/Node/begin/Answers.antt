@@ -3,7 +3,7 @@ use Rattle.std.proofs.lemmas.List.{append-nil}
 use Rattle.calvin_types.specs.Deeds.{Did}
 use Rattle.calvin_sched.specs.Progress.{left}
 use Rattle.calvin_types.specs.Participants.{site}
-use Rattle.calvin_sched.specs.Scheduling.{turn_at, is_read_here, other_active}
+use Rattle.calvin_sched.specs.Scheduling.{turn_at, serves_others, other_active}
 use Rattle.calvin_sched.specs.Steps as steps
 use Rattle.calvin_node_acts.specs.declared.act.Act.TheVariants.{Begin}
 use Rattle.calvin_node_packets.specs.declared.packet.Content.TheVariants.{Reads}
@@ -19,8 +19,8 @@ use Rattle.calvin_node_acts.proofs.Settling.{running, left_then}
 use Rattle.calvin_node_acts.proofs.Beginning.{begun}
 use Rattle.calvin_node.proofs.node.Node.begin.Goals as goal
 
-pub returns-then-not-reads_here : goal.returns-then-not-reads_here
-returns-then-not-reads_here g c =
+pub returns-then-not-serves_others : goal.returns-then-not-serves_others
+returns-then-not-serves_others g c =
     let p = c.self.inside in
     let below = rest_of g.S.Rows.points g.S.Rows.cold p.pending.items p.scheduler p.kept in
     let x = state_of p.layer below in
@@ -32,7 +32,7 @@ returns-then-not-reads_here g c =
     let begun_here = has_begun here c.args.place p.scheduler.scheduling s (subst (λ h. Did false (Ok tt) (steps.silently (steps.begin h c.args.place p.scheduler.scheduling)) p.scheduler.scheduling s) c.self.invariant.here c.in_ok-begin_in_place.ensures.did) in
     let out = steps.serving here begun_here.0 in
     let did = begun_here.2 in
-    let read = subst (λ h. is_read_here h (turn_at p.scheduler.scheduling c.args.place) ≡ false) c.self.invariant.here (sym c.reads_here.ensures ∙ c.if-not-reads_here.true) in
+    let read = subst (λ h. serves_others h (turn_at p.scheduler.scheduling c.args.place) ≡ false) c.self.invariant.here (sym c.serves_others.ensures ∙ c.if-not-serves_others.true) in
     record {
       did = subst (λ v. NodeDid {Reply = reply} (act_grows v.config (Begin c.args.place) v.state) (Ok tt) (acting.begin v.config c.args.place v.state) v (running config (record x { scheduler = s; due = left s c.begin_in_place.new.self.due })) sent sent) c.self.view_is
           (subst (λ d. NodeDid {Reply = reply} (act_grows config (Begin c.args.place) x) (Ok tt) (acting.begin config c.args.place x) (running config x) (running config (record x { scheduler = s; due = d })) sent sent)
@@ -54,7 +54,7 @@ returns g c =
     let begun_here = has_begun here c.args.place p.scheduler.scheduling s (subst (λ h. Did false (Ok tt) (steps.silently (steps.begin h c.args.place p.scheduler.scheduling)) p.scheduler.scheduling s) c.self.invariant.here c.in_ok-begin_in_place-2.ensures.did) in
     let out = steps.serving here begun_here.0 in
     let did = begun_here.2 in
-    let read = subst (λ h. is_read_here h (turn_at p.scheduler.scheduling c.args.place) ≡ true) c.self.invariant.here (sym c.reads_here.ensures ∙ c.if-not-reads_here.false) in
+    let read = subst (λ h. serves_others h (turn_at p.scheduler.scheduling c.args.place) ≡ true) c.self.invariant.here (sym c.serves_others.ensures ∙ c.if-not-serves_others.false) in
     record {
       did = subst (λ v. NodeDid {Reply = reply} (act_grows v.config (Begin c.args.place) v.state) (Ok tt) (acting.begin v.config c.args.place v.state) v (running config (record x { scheduler = s; due = left s c.begin_in_place-2.new.self.due })) sent all) c.self.view_is
           (subst (λ d. NodeDid {Reply = reply} (act_grows config (Begin c.args.place) x) (Ok tt) (acting.begin config c.args.place x) (running config x) (running config (record x { scheduler = s; due = d })) sent all)

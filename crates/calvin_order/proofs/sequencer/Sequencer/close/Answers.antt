@@ -3,6 +3,7 @@ use Rattle.calvin_types.specs.Deeds.{Did}
 use Rattle.calvin_order.specs.Keeping.{InTurn, sequencing_of, can_close, IsSequenced}
 use Rattle.calvin_order.specs.Sequencing.{next_epoch, close}
 use Rattle.calvin_order.proofs.Sequencers.{Joined, Closes, rest_is, turn_closed, closed_sequenced, closed_did}
+use Rattle.calvin_order.proofs.KeptRoom.{kept_all, kept_closing, where_refused}
 use Rattle.calvin_order.proofs.sequencer.Sequencer.close.Goals as goal
 
 pub join_ripe-requires-clause-in_turn : goal.join_ripe-requires-clause-in_turn
@@ -46,3 +47,9 @@ returns-clause-did g c =
     subst (λ d. Did (not (can_close c.args.self.now)) (Ok c.in_ok-epoch.epoch) (close d c.args.self.now.sequencing) c.args.self.now.sequencing (sequencing_of c.close.new.self.state c.join_ripe.new.queue.items c.join_ripe.new.held.items)) delay
     (subst (λ s. Did (not (can_close c.args.self.now)) (Ok c.in_ok-epoch.epoch) (close i.delay s) s (sequencing_of c.close.new.self.state c.join_ripe.new.queue.items c.join_ripe.new.held.items)) old
     (closed_did (not (can_close c.args.self.now)) i.history.state c.close.new.self.state i.queue.items c.drop_first.new.queue.items c.join_ripe.new.queue.items i.held_back.items c.join_ripe.new.held.items i.delay c.in_ok-epoch.epoch closes c.self.invariant.0.in_turn c.in_ok-epoch.ensures.ok.1))
+
+pub returns-in_err-epoch-clause-room : goal.returns-in_err-epoch-clause-room
+returns-in_err-epoch-clause-room g c = where_refused c.from_residual.result _ (kept_all c.args.self.now)
+
+pub returns-in_err-reserve_close-clause-room : goal.returns-in_err-reserve_close-clause-room
+returns-in_err-reserve_close-clause-room g c = where_refused c.from_residual-in_err-reserve_close.result _ (kept_closing c.args.self.now c.reserve_close.new.self c.in_err-reserve_close.ensures.same c.in_err-reserve_close.ensures.closed c.in_err-reserve_close.ensures.ready)

@@ -3,6 +3,7 @@ use Rattle.std.specs.Option.{unwrap_or}
 use Rattle.calvin_order.specs.Keeping.{closed_len}
 use Rattle.calvin_order.specs.Sequencing.{is_decided, left_over}
 use Rattle.calvin_order.proofs.Sequencers.{Settles, decided_sequenced, decided_room}
+use Rattle.calvin_order.proofs.KeptRoom.{kept_decided, where_refused}
 use Rattle.calvin_order.proofs.sequencer.Sequencer.decided.Goals as goal
 
 pub invariant_of-self : goal.invariant_of-self
@@ -20,3 +21,6 @@ invariant_of-self g c =
           (c.put_back.ensures.items ∙ ap (λ o. left_over o c.args.batch.now ++ i.queue.items) c.closed.ensures) c.self-2.invariant.0.few c.self-2.invariant.0.in_turn,
       omega (arith, room, some, closed, spare, made, c.put_back.ensures.len, c.put_back.ensures.capacity),
     )
+
+pub returns-in_err-reserve_decided-clause-room : goal.returns-in_err-reserve_decided-clause-room
+returns-in_err-reserve_decided-clause-room g c = where_refused c.from_residual.result _ (kept_decided c.args.self.now c.reserve_decided.new.self c.in_err-reserve_decided.ensures.same c.in_err-reserve_decided.ensures.queue c.in_err-reserve_decided.ensures.decided)

@@ -5,6 +5,7 @@ use Rattle.calvin_order.specs.Keeping.{InTurn, sequencing_of, can_submit_cold}
 use Rattle.calvin_order.specs.Sequencing.{load, ripened, delayed}
 use Rattle.calvin_order.proofs.HoldingBack.{turn_more}
 use Rattle.calvin_order.proofs.Sequencers.{Joined, cold_is, cold_sequenced}
+use Rattle.calvin_order.proofs.KeptRoom.{kept_all, kept_cold, where_refused}
 use Rattle.calvin_order.proofs.sequencer.Sequencer.submit_cold.Goals as goal
 
 pub join_ripe-requires-clause-in_turn : goal.join_ripe-requires-clause-in_turn
@@ -41,3 +42,9 @@ returns-clause-did g c =
     let next = made ∙ ap (λ d. ripened d (delayed c.args.txn (sequencing_of i.history.state i.queue.items i.held_back.items))) delay ∙ ap (λ s. ripened c.args.self.now.delay (delayed c.args.txn s)) old in
     subst (λ d. Did (not (can_submit_cold c.args.self.now)) (Ok tt) d c.args.self.now.sequencing (sequencing_of i.history.state c.join_ripe.new.queue.items c.join_ripe.new.held.items))
     (sym (c.in_ok-check_submit.ensures.deed (ripened c.args.self.now.delay (delayed c.args.txn c.args.self.now.sequencing)))) (refl, next)
+
+pub returns-in_err-check_submit-clause-room : goal.returns-in_err-check_submit-clause-room
+returns-in_err-check_submit-clause-room g c = where_refused c.from_residual.result _ (kept_all c.args.self.now)
+
+pub returns-in_err-reserve_submit_cold-clause-room : goal.returns-in_err-reserve_submit_cold-clause-room
+returns-in_err-reserve_submit_cold-clause-room g c = where_refused c.from_residual-in_err-reserve_submit_cold.result _ (kept_cold c.args.self.now c.reserve_submit_cold.new.self c.in_err-reserve_submit_cold.ensures.same c.in_err-reserve_submit_cold.ensures.queue c.in_err-reserve_submit_cold.ensures.held)

@@ -1,6 +1,6 @@
 use Rattle.std.proofs.lemmas.Result.{err_from_is_err_and}
 use Rattle.std.specs.Prelude.{OnErr}
-use Rattle.std.proofs.Common.{◌≡◌, Ok, refl, sym, ap, subst, ◌∙◌}
+use Rattle.std.proofs.Common.{◌≡◌, Ok, refl, sym, ap, subst, ◌∙◌, arith}
 use Rattle.calvin_types.specs.Participants.{site}
 use Rattle.calvin_app.specs.Serial.{writes_on}
 use Rattle.calvin_app.specs.Stores.{put_at}
@@ -13,6 +13,7 @@ use Rattle.calvin_sched.specs.Progress.{left}
 use Rattle.calvin_sched.specs.declared.phase.Phase.TheVariants.{Done}
 use Rattle.calvin_sched.proofs.Progresses.{progress_ended, left_ended, left_again}
 use Rattle.calvin_sched.proofs.Steps.{if_ok}
+use Rattle.calvin_order.proofs.KeptRoom.{where_refused}
 use Rattle.calvin_sched.proofs.scheduler.Scheduler.apply.Goals as goal
 
 pub returns-in_err-reserve-clause-err : goal.returns-in_err-reserve-clause-err
@@ -71,3 +72,6 @@ pub returns-in_err-reserve-clause-due : goal.returns-in_err-reserve-clause-due
 returns-in_err-reserve-clause-due g c =
     let new = scheduling_of c.self.inside.opened c.self.inside.last c.self.inside.turns.kept (g.S.Rows.store c.reserve.new.self) in
     left_again new c.self.inside.progress.due.items ∙ ap (λ v. left new v.due) c.self.view_is
+
+pub returns-in_err-reserve-clause-room : goal.returns-in_err-reserve-clause-room
+returns-in_err-reserve-clause-room g c = where_refused c.from_residual.result _ (let room = ap (λ v. v.room) c.self.view_is in omega (arith, c.in_err-reserve.ensures.room, room))

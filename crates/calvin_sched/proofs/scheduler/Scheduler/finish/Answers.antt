@@ -6,6 +6,7 @@ use Rattle.calvin_sched.specs.Keeping.{scheduling_of, Finished}
 use Rattle.calvin_sched.specs.Scheduling.{local_writes}
 use Rattle.calvin_sched.specs.Progress.{left}
 use Rattle.calvin_sched.proofs.Progresses.{left_again}
+use Rattle.calvin_order.proofs.KeptRoom.{where_refused}
 use Rattle.calvin_sched.proofs.scheduler.Scheduler.finish.Goals as goal
 
 pub apply-requires : goal.apply-requires
@@ -36,3 +37,9 @@ returns-in_err-apply-clause-did g c =
 
 pub returns-clause-did : goal.returns-clause-did
 returns-clause-did g c = (c.in_ok-check_due.ensures.ok, c.in_ok-apply.ensures.ok c.args.computed.now.job c.in_ok-check_due.ensures.ok, c.args.computed.now.answered)
+
+pub returns-in_err-check_due-clause-room : goal.returns-in_err-check_due-clause-room
+returns-in_err-check_due-clause-room g c = where_refused c.from_residual.result _ (let room = ap (λ v. v.room) c.self.view_is in omega (arith, room))
+
+pub returns-in_err-apply-clause-room : goal.returns-in_err-apply-clause-room
+returns-in_err-apply-clause-room g c = where_refused c.from_residual-in_err-apply.result _ c.in_err-apply.ensures.room

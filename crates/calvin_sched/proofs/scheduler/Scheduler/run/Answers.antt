@@ -8,6 +8,7 @@ use Rattle.calvin_sched.specs.Scheduling.{local_writes}
 use Rattle.calvin_sched.specs.Steps as steps
 use Rattle.calvin_sched.specs.Progress.{left}
 use Rattle.calvin_sched.proofs.Progresses.{left_again}
+use Rattle.calvin_order.proofs.KeptRoom.{where_refused}
 use Rattle.calvin_sched.proofs.scheduler.Scheduler.run.Goals as goal
 
 pub returns-in_err-name-clause-due : goal.returns-in_err-name-clause-due
@@ -54,3 +55,12 @@ pub returns-in_ok-apply-2-clause-ok : goal.returns-in_ok-apply-2-clause-ok
 returns-in_ok-apply-2-clause-ok g c =
     let told = c.in_ok-name.ensures.ok in
     (told.0, told.1, told.2, told.3, c.in_ok-apply-2.ensures.ok told.0 told.1)
+
+pub returns-in_err-name-clause-room : goal.returns-in_err-name-clause-room
+returns-in_err-name-clause-room g c = where_refused c.from_residual.result _ (let room = ap (λ v. v.room) c.self.view_is in omega (arith, room))
+
+pub returns-in_err-apply-clause-room : goal.returns-in_err-apply-clause-room
+returns-in_err-apply-clause-room g c = where_refused c.from_residual-in_err-apply.result _ c.in_err-apply.ensures.room
+
+pub returns-in_err-apply-2-clause-room : goal.returns-in_err-apply-2-clause-room
+returns-in_err-apply-2-clause-room g c = where_refused c.from_residual-in_err-apply-2.result _ c.in_err-apply-2.ensures.room

@@ -81,7 +81,7 @@ invariant_of-self-2 g c =
     let to = to_node c.packets-packets.result.now p.packets.packets c.packets-packets.ensures c.args.number _ packet c.if-number-packets.false lent.0 c.in-AtNode.id c.in-AtNode.is in
     let x = c.index_mut.result.now in
     let all = c.handle-result.new.outbox.packets in
-    let did = subst (λ s. NodeDid (content_grows x.config packet.content) c.handle-result.result (handle x.config packet x.state) x c.handle-result.new.self s all) lent.2 c.handle-result.ensures.did in
+    let did = subst (λ s. NodeDid (content_grows x.config packet.content x.state) c.handle-result.result (handle x.config packet x.state) x c.handle-result.new.self s all) lent.2 c.handle-result.ensures.did in
     subst (λ l. IsOpened config (slice_set p.nodes.items at c.handle-result.new.self) × IsReached g.A.App.meaning (world_of config (slice_set p.nodes.items at c.handle-result.new.self) l)) (sym c.put_back.ensures)
     (delivered_kept g.A.App.meaning config p.nodes.items p.packets.packets c.self.invariant.0 c.self.invariant.1 c.in-AtNode.id at at_is found x c.handle-result.new.self there c.args.number packet lent.1 lent.0 to c.handle-result.result all did)
 
@@ -99,7 +99,7 @@ returns g c =
     let to = to_node c.packets-packets.result.now p.packets.packets c.packets-packets.ensures c.args.number _ packet c.if-number-packets.false lent.0 c.in-AtNode.id c.in-AtNode.is in
     let x = c.index_mut.result.now in
     let all = c.handle-result.new.outbox.packets in
-    let did = subst (λ s. NodeDid (content_grows x.config packet.content) c.handle-result.result (handle x.config packet x.state) x c.handle-result.new.self s all) lent.2 c.handle-result.ensures.did in
+    let did = subst (λ s. NodeDid (content_grows x.config packet.content x.state) c.handle-result.result (handle x.config packet x.state) x c.handle-result.new.self s all) lent.2 c.handle-result.ensures.did in
     subst (λ w. SettledStep g.A.App.meaning w (Deliver c.args.number) (outcome_of c.handle-result.result) (world_of config (slice_set p.nodes.items at c.handle-result.new.self) c.put_back.new.self.packets)) c.self.view_is
     (subst (λ l. SettledStep g.A.App.meaning (world_of config p.nodes.items p.packets.packets) (Deliver c.args.number) (outcome_of c.handle-result.result) (world_of config (slice_set p.nodes.items at c.handle-result.new.self) l)) (sym c.put_back.ensures)
     (delivered g.A.App.meaning config p.nodes.items p.packets.packets c.self.invariant.0 c.self.invariant.1 c.in-AtNode.id at at_is found x c.handle-result.new.self there c.args.number packet lent.1 lent.0 to c.handle-result.result all did))

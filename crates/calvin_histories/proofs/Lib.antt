@@ -1,0 +1,11 @@
+pub mod EntrySizes
+pub mod SameValues
+pub mod Sent
+pub mod Names
+pub mod Positions
+pub mod Finding
+pub mod Events
+pub mod Lives
+pub mod Assembling
+pub mod Locking
+pub mod Whole

@@ -1,0 +1,23 @@
+-- Some entries more are taken; at the end none fits.
+use Rattle.std.proofs.Common.{◌≡◌, Ok, ap, subst, ◌∙◌}
+use Rattle.std.specs.Prelude.{IfOk, IfErr}
+use denote.Memory.{lone}
+use Rattle.calvin_order.specs.Configs.{Config}
+use Rattle.calvin_node_packets.proofs.PacketSizes.{packet_of}
+use Rattle.calvin_histories.specs.Histories.{IsUnassembled}
+use Rattle.calvin_histories.proofs.assembly.Assembly.run.Goals as goal
+
+pub end-requires-clause-stuck : goal.end-requires-clause-stuck
+end-requires-clause-stuck g c = c.in-Ok-false.ensures.stuck (ap Ok c.in-Ok-false.field-0-test)
+
+pub returns-in-Ok-false-clause-config : goal.returns-in-Ok-false-clause-config
+returns-in-Ok-false-clause-config g c = subst (λ (config : Config). IfOk c.end.result (λ book. book.config ≡ config)) (c.in-Ok-false.ensures.config.1 ∙ c.loop.invariant.config.1) c.end.ensures.config
+
+pub returns-in-Ok-false-clause-err : goal.returns-in-Ok-false-clause-err
+returns-in-Ok-false-clause-err g c = subst (λ (config : Config). IfErr c.end.result (IsUnassembled g.A.App.meaning config c.args.histories.now)) (c.in-Ok-false.ensures.config.1 ∙ c.loop.invariant.config.1) c.end.ensures.err
+
+pub drop-assembly-requires-in-Err-2-room-T-Destruct : goal.drop-assembly-requires-in-Err-2-room-T-Destruct
+drop-assembly-requires-in-Err-2-room-T-Destruct g c κs within = packet_of (lone g.row.A-Args.mir) (lone g.row.A-Row.mir) (lone g.row.A-Reply.mir) g.met.A.App.work_fits
+
+pub drop-assembly-requires-4-room-T-Destruct : goal.drop-assembly-requires-4-room-T-Destruct
+drop-assembly-requires-4-room-T-Destruct g c κs within = packet_of (lone g.row.A-Args.mir) (lone g.row.A-Row.mir) (lone g.row.A-Reply.mir) g.met.A.App.work_fits

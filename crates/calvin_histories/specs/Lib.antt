@@ -1,0 +1,4 @@
+pub mod Histories
+pub mod Positions
+pub mod Assembling
+pub mod Locked

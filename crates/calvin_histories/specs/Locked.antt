@@ -1,0 +1,33 @@
+-- A node under its lock: what its own history makes of it. The notions are of this project.
+--     Lived Args Row Reply      what its store was opened with, its name, and its history
+--     IsLife m lived state sent      the history gives these data, and has sent these packets
+--     HasLived m lived state      the history gives these data
+--     IsNoEntry m lived entry fault      why an event is no entry that comes next
+use Rattle.std.specs.Prelude.{◌≡◌, ◌⊎◌, List, Some}
+use Rattle.calvin_types.specs.declared.fault.Fault.{Fault}
+use Rattle.calvin_types.specs.declared.fault.Fault.TheVariants.{OutOfMemory}
+use Rattle.calvin_types.specs.declared.place.NodeId.{NodeId}
+use Rattle.calvin_types.specs.Deeds.{Refuses}
+use Rattle.calvin_app.specs.Meaning.{Meaning}
+use Rattle.calvin_order.specs.Configs.{Config}
+use Rattle.calvin_node_packets.specs.declared.packet.Packet.{Packet}
+use Rattle.calvin_node_acts.specs.NodeStates.{NodeState}
+use Rattle.calvin_node_acts.specs.Handling.{NodeDeed}
+use Rattle.calvin_histories.specs.declared.entry.Entry.{Entry}
+use Rattle.calvin_histories.specs.Histories.{new_life, deed_in, life_of}
+
+pub record Lived (Args Row Reply : Type 0) : Type 0 where
+  pub config : Config
+  pub id : NodeId
+  pub history : List (Entry Args Row Reply)
+
+module _ {Args Row Reply : Type 0} (m : Meaning Args Row Reply) where
+  abbrev pub IsLife : Lived Args Row Reply → NodeState Args Row → List (Packet Args Row Reply) → Type 0
+  IsLife n state sent = life_of m n.config (new_life n.id) n.history ≡ Some (record { state = state; sent = sent })
+
+  abbrev pub HasLived : Lived Args Row Reply → NodeState Args Row → Type 0
+  HasLived n state = (sent : List (Packet Args Row Reply)) × IsLife n state sent
+
+  -- its case says so, or memory ran out
+  abbrev pub IsNoEntry : Lived Args Row Reply → Entry Args Row Reply → Fault → Type 0
+  IsNoEntry n entry fault = ((state : NodeState Args Row) × HasLived n state × ◌≡◌ {A = NodeDeed Args Row Reply} (deed_in m n.config entry state) (Refuses fault)) ⊎ (fault ≡ OutOfMemory)

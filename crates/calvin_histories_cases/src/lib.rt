@@ -1,0 +1,14 @@
+//! Worked cases of histories of nodes, and of the list of events that they assemble to.
+#![tactic(auto)]
+
+#[cfg(test)]
+mod assembling;
+#[cfg(test)]
+mod checks;
+mod giving_back;
+#[cfg(test)]
+mod locked;
+#[cfg(test)]
+mod made;
+
+pub use giving_back::{give_back, give_back_histories, give_back_node};

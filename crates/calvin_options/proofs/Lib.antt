@@ -1,0 +1,3 @@
+pub mod Added
+mod Numerals
+pub mod Subcommands

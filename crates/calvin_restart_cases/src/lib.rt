@@ -1,0 +1,17 @@
+//! Restarts everywhere, and refused memory: a list of events that moves a number across partitions is run in a world with each
+//! node restarted after each event, and with each allocation refused. Checked here over the statements of the crates below.
+#![tactic(auto)]
+
+#[cfg(test)]
+mod checks;
+mod giving_back;
+#[cfg(test)]
+mod listed;
+#[cfg(test)]
+mod restarts;
+#[cfg(test)]
+mod runs;
+#[cfg(test)]
+mod scarce_world;
+
+pub use giving_back::give_back;

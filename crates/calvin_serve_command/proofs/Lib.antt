@@ -1,0 +1,6 @@
+mod Anew
+mod Breaks
+mod Left
+mod Orders
+mod Sessions
+mod Words

@@ -1,0 +1,6 @@
+mod Running
+mod Steps
+mod Beginnings
+pub mod Crashes
+mod Opened
+mod Texts

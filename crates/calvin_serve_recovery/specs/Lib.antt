@@ -1,0 +1,3 @@
+pub mod Recovered
+pub mod Beginnings
+pub mod Runs

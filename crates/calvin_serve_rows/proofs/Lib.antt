@@ -1,0 +1,2 @@
+mod Spells
+mod Lines

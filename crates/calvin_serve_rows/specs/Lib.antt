@@ -1,0 +1,6 @@
+pub mod KvForms
+pub mod StockForms
+pub mod OnceForms
+pub mod RowLines
+pub mod Starts
+pub mod Spelled

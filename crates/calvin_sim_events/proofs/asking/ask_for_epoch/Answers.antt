@@ -1,0 +1,8 @@
+use Rattle.calvin_app.proofs.Results.{on_err}
+use Rattle.calvin_sim_events.specs.declared.schedule.Restarts.TheVariants.{Never}
+use Rattle.calvin_sim_events.specs.Quiet.{everyone}
+use Rattle.calvin_sim_events.proofs.Leading.{want_then}
+use Rattle.calvin_sim_events.proofs.asking.ask_for_epoch.Goals as goal
+
+pub returns-in_err-_outcome-clause-want : goal.returns-in_err-_outcome-clause-want
+returns-in_err-_outcome-clause-want g c = on_err _ c.from_residual.result (want_then g.A.App.meaning Never everyone _ _ _ c.loop-group.invariant c.in_err-_outcome.ensures.want)
