@@ -25,7 +25,7 @@ pub fn first_reply<Args: Copy, Row: Copy, Reply: Copy>(
 }
 
 /// The place and the answer, where the content is a reply to the request.
-fn reply_in<Args: Copy, Row: Copy, Reply: Copy>(
+pub fn reply_in<Args: Copy, Row: Copy, Reply: Copy>(
     id: RequestId,
     attempt: u8,
     content: &Content<Args, Row, Reply>,

@@ -21,7 +21,8 @@ use std::thread::Threads;
 /// The most workers of a cluster.
 pub const MOST_WORKERS: usize = 16;
 
-/// Threads that work on one book, and callers that share it.
+/// Threads that work on one book, and callers that share it. Where there is no memory to go on, also when that is tried again, it halts
+/// by itself, so that nobody waits for what doesn't come.
 #[derive(Drop)]
 pub struct Cluster<A: App + Drop, L: Locks + Drop, S: Rows<A::Row> + Drop, G: Gate, J: Founding> {
     crew: Crew<A, L, S, G, J>,

@@ -1,7 +1,7 @@
 //! What the threads of a cluster share.
 use crate::gate::Gate;
 use calvin_app::{App, Computed, Job};
-use calvin_cluster_desk::{Errand, Founding, Office, Ticket};
+use calvin_cluster_desk::{Errand, Founding, MOST_TRIES, Office, Ticket};
 use calvin_lock::Locks;
 use calvin_store::Rows;
 use calvin_types::{NodeId, Place};
@@ -34,21 +34,33 @@ pub(crate) struct Shared<
 }
 
 impl<A: App + Drop, L: Locks + Drop, S: Rows<A::Row> + Drop, J: Founding> Hall<A, L, S, J> {
-    /// All that is to be done is sent to the threads. What can't be sent is lost, and asked for again later.
+    /// All that is to be done is sent to the threads. Where there is no room for an errand, nothing is taken any more: nobody would
+    /// come back to send it.
     fn send_errands<R: Wait>(&mut self, rt: &R) {
         for _ in 0..u64::MAX {
             let Some(errand) = self.office.next_errand() else {
                 break;
             };
+            if !self.send(rt, errand) {
+                self.office.is_back();
+                self.office.close_down();
+                break;
+            }
+        }
+    }
+
+    /// Sends an errand to the threads, and says whether there was room for it, at one of 64 times.
+    fn send<R: Wait>(&self, rt: &R, errand: Errand) -> bool {
+        for _ in 0..MOST_TRIES {
             let is_sent = match errand {
                 Errand::Deliver(number) => self.letters.send(rt, number).is_ok(),
                 Errand::Run(id, place) => self.jobs.send(rt, (id, place)).is_ok(),
             };
-            if !is_sent {
-                self.office.is_back();
-                break;
+            if is_sent {
+                return true;
             }
         }
+        false
     }
 }
 
@@ -59,9 +71,12 @@ impl<A: App + Drop, L: Locks + Drop, S: Rows<A::Row> + Drop, G: Gate, J: Foundin
     G,
     J,
 > {
-    /// Sends what is to be done, and wakes those who wait for what happened.
+    /// Sends what is to be done, and wakes those who wait for what happened, or all where nothing more happens.
     pub fn go_on<R: Wait>(&self, rt: &R, hall: &mut Hall<A, L, S, J>) {
         hall.send_errands(rt);
+        if hall.office.is_closed() {
+            self.wake_all();
+        }
         let news = hall.office.take_news();
         if news.answered {
             self.answered.notify_all();

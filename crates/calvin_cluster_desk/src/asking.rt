@@ -70,6 +70,7 @@ impl<A: App + Drop, L: Locks + Drop, S: Rows<A::Row> + Drop, J: Founding> Office
     /// A node goes on, and asks for what it lacks of so many epochs, if it doesn't stand at the end of them.
     fn ask_at(&mut self, id: NodeId, epochs: u64) {
         self.go_on(id);
+        self.lock_all(id);
         if self.stands_at_end(id, epochs) {
             return;
         }

@@ -21,6 +21,8 @@ pub struct Desk<A: App + Drop, L: Locks + Drop, S: Rows<A::Row> + Drop, J: Found
     pen: Option<Pen<Event<A::Args>, J>>,
     /// No request is taken any more, and nobody waits for an answer.
     pub(crate) closed: bool,
+    /// An event was refused for want of memory since this was set back.
+    pub(crate) is_short: bool,
 }
 
 impl<A: App + Drop, L: Locks + Drop, S: Rows<A::Row> + Drop, J: Founding> Model
@@ -72,6 +74,7 @@ impl<A: App + Drop, L: Locks + Drop, S: Rows<A::Row> + Drop, J: Founding> Desk<A
                 book,
                 pen: Some(pen),
                 closed: false,
+                is_short: false,
             },
             mark,
         ))
@@ -89,6 +92,7 @@ impl<A: App + Drop, L: Locks + Drop, S: Rows<A::Row> + Drop, J: Founding> Desk<A
             Ok(()) => {}
             Err(fault) => {
                 self.pen = Some(pen);
+                self.note(fault);
                 return Err(fault);
             }
         }
@@ -101,6 +105,15 @@ impl<A: App + Drop, L: Locks + Drop, S: Rows<A::Row> + Drop, J: Founding> Desk<A
         Ok(mark)
     }
 
+    /// An event was refused.
+    fn note(&mut self, fault: Fault)
+        ensures { self.new ≡ self.old }
+    {
+        if matches!(fault, Fault::OutOfMemory) {
+            self.is_short = true;
+        }
+    }
+
     /// Takes what came of a node's job, and writes that into the history. Refused as `Book::finish_with` is, and with `Closed`
     /// where another hand wrote there.
     pub fn finish(&mut self, id: NodeId, computed: &Computed<A>) -> Result<(), Fault> {
@@ -111,6 +124,7 @@ impl<A: App + Drop, L: Locks + Drop, S: Rows<A::Row> + Drop, J: Founding> Desk<A
             Ok(()) => {}
             Err(fault) => {
                 self.pen = Some(pen);
+                self.note(fault);
                 return Err(fault);
             }
         }

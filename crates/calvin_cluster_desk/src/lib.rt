@@ -18,7 +18,7 @@ mod stopped;
 pub use desk::{Desk, Founded};
 pub use drill::{Drill, NO_DRILL};
 pub use errands::Errand;
-pub use office::{News, Office};
+pub use office::{MOST_TRIES, News, Office};
 pub use receipt::{Founding, Report, Ticket, Told};
 pub use seat::Seats;
 pub use stopped::Stopped;

@@ -45,6 +45,9 @@ pub struct News {
     pub stood: bool,
 }
 
+/// So often what failed for want of memory is tried.
+pub const MOST_TRIES: usize = 64;
+
 const NO_NEWS: News = News {
     answered: false,
     stood: false,
@@ -107,13 +110,28 @@ impl<A: App + Drop, L: Locks + Drop, S: Rows<A::Row> + Drop, J: Founding> Office
     pub fn next_errand(&mut self) -> Option<Errand> {
         let mut errand = self.waiting_errand();
         if errand.is_none() && self.under_way == 0 && !self.desk.closed {
-            self.ask_for_all();
-            errand = self.waiting_errand();
+            errand = self.asked_errand();
         }
         if errand.is_some() {
             self.under_way = self.under_way.saturating_add(1);
         }
         errand
+    }
+
+    /// What comes of asking for what is missing. Where there is no memory to ask for it, that is tried 64 times, and then nothing is
+    /// taken any more: nobody would come back to ask again.
+    fn asked_errand(&mut self) -> Option<Errand> {
+        for _ in 0..MOST_TRIES {
+            self.desk.is_short = false;
+            self.ask_for_all();
+            let errand = self.waiting_errand();
+            if errand.is_some() || !self.desk.is_short {
+                return errand;
+            }
+            self.rounds = self.rounds.saturating_sub(1);
+        }
+        self.close_down();
+        None
     }
 
     /// A request that can be run, or the next packet for a node.

@@ -88,17 +88,22 @@ impl<A: App + Drop, L: Locks + Drop, S: Rows<A::Row> + Drop, J: Founding> Office
 
     /// The requests of an epoch that was merged ask for their locks, rows that came early are taken, and those begin that can.
     fn admit(&mut self, id: NodeId) {
-        for _ in 0..u64::MAX {
-            if self.desk.record(&Event::At(id, Act::Lock)).is_err() {
-                break;
-            }
-        }
+        self.lock_all(id);
         if let Some(seat) = self.seat(id) {
             seat.merged = seat.merged.saturating_add(1);
         }
         self.take_early(id);
         self.begin_new(id);
         self.look_where_it_stands(id);
+    }
+
+    /// The requests of a node that were merged and haven't asked for their locks do so.
+    pub(crate) fn lock_all(&mut self, id: NodeId) {
+        for _ in 0..u64::MAX {
+            if self.desk.record(&Event::At(id, Act::Lock)).is_err() {
+                break;
+            }
+        }
     }
 
     /// Rows that came early for requests of epochs that are merged now are delivered again.

@@ -17,8 +17,8 @@ use std::sync::Wait;
 use std::thread::Threads;
 
 /// Opens a cluster over a book, waits until every node stands at the end of the last of so many epochs, stops it, and gives the book
-/// that it leaves. Refused with `Closed` where the cluster stopped before, with `NotEnded` where its book is still shared, and with
-/// `OutOfMemory` where it could not be opened.
+/// that it leaves. Refused with `NotEnded` where its book is still shared, and with `OutOfMemory` where it could not be opened or
+/// closed before for want of memory.
 pub(crate) fn bring_on<A, L, S, G, R>(
     rt: R,
     alloc: Global,
@@ -83,13 +83,13 @@ where
         Err((fault, _book)) => return Err(fault),
     };
     let waited = wait_for_last(&rt, &cluster, epochs);
-    let stopped = cluster.stop(&rt);
+    let stopped = cluster.stop(&rt)?;
     waited?;
-    Ok(stopped?.into_book())
+    Ok(stopped.into_book())
 }
 
 /// Waits until every node stands at the end of the last of so many epochs. Where there is none there is nothing to wait for. Refused
-/// with `Closed` alone.
+/// with `OutOfMemory` where the cluster closed before: nobody halts it, so that it had no room to go on.
 fn wait_for_last<A, L, S, G, J, R>(
     rt: &R,
     cluster: &Cluster<A, L, S, G, J>,
@@ -107,5 +107,8 @@ where
     if epochs == 0 {
         return Ok(());
     }
-    cluster.wait_all(rt, epochs - 1)
+    match cluster.wait_all(rt, epochs - 1) {
+        Ok(()) => Ok(()),
+        Err(_) => Err(Fault::OutOfMemory),
+    }
 }

@@ -99,10 +99,12 @@ impl<A: App + Drop, L: Locks + Drop, S: Rows<A::Row> + Drop> World<A, L, S> {
         None
     }
 
-    /// How many partitions and replicas it has.
+    /// What it was opened with: how many partitions and replicas, which delay and which weave. Whether there are points and cold
+    /// rows is said by its keeper of rows.
     pub fn config(&self) -> &Config
         ensures partitions { result.now.partitions ≡ self.now.config.partitions }
         ensures replicas { result.now.replicas ≡ self.now.config.replicas }
+        ensures whole { self.now.config ≡ config_of result.now S.points S.cold }
     {
         &self.config
     }
