@@ -2,17 +2,23 @@
 --     did_entry      an entry that took effect is the last one of the history that gives the node
 --     still_life, config_kept      what stays
 --     no_entry      one that was refused leaves the node as its history gives it, and why
-use Rattle.std.proofs.Common.{◌≡◌, Bool, List, [], ◌∷◌, ◌++◌, Some, Result, Ok, Err, inl, inr, refl, sym, ap, subst, ◌∙◌}
+--     no_finish      why what came of a job isn't taken
+use Rattle.std.proofs.Common.{◌≡◌, ◌⊎◌, Bool, List, [], ◌∷◌, ◌++◌, Some, Result, Ok, Err, inl, inr, refl, sym, ap, subst, ◌∙◌}
 use Rattle.calvin_types.specs.declared.fault.Fault.{Fault}
+use Rattle.calvin_types.specs.declared.fault.Fault.TheVariants.{OutOfMemory}
 use Rattle.calvin_types.specs.declared.place.NodeId.{NodeId}
 use Rattle.calvin_types.specs.Deeds.{Refuses, Does}
+use Rattle.calvin_app.specs.declared.job.Job.{Job}
 use Rattle.calvin_app.specs.Meaning.{Meaning}
+use Rattle.calvin_sched.specs.Keeping.{IsNotDue}
+use Rattle.calvin_sched.specs.Steps.{job}
+use Rattle.calvin_node_acts.specs.NodeStates.{site_of}
 use Rattle.calvin_node_packets.specs.declared.packet.Packet.{Packet}
 use Rattle.calvin_node_acts.specs.Handling.{NodeDeed}
 use Rattle.calvin_node_acts.specs.Running.{Running, NodeDid}
 use Rattle.calvin_histories.specs.declared.entry.Entry.{Entry}
 use Rattle.calvin_histories.specs.Histories.{new_life, lives_on, deed_in, life_of}
-use Rattle.calvin_histories.specs.Locked.{IsLife, IsNoEntry}
+use Rattle.calvin_histories.specs.Locked.{IsLife, IsNoEntry, IsNoFinish}
 use Rattle.calvin_histories.proofs.Lives.{life_more}
 
 module _ {Args Row Reply : Type 0} (m : Meaning Args Row Reply) (node : Running Args Row) (id : NodeId) (entries : List (Entry Args Row Reply)) (sent : List (Packet Args Row Reply)) (entry : Entry Args Row Reply)
@@ -51,3 +57,8 @@ module _ {Args Row Reply : Type 0} (m : Meaning Args Row Reply) (node : Running 
   -- where nothing changed the history gives the same
   pub still_life : (after : Running Args Row) (all : List (Packet Args Row Reply)) (items : List (Entry Args Row Reply)) → after ≡ node → all ≡ sent → items ≡ entries → IsLife m (record { config = after.config; id = id; history = items }) after.state all
   still_life after all items same none is = subst (λ (z : Running Args Row × (List (Packet Args Row Reply) × List (Entry Args Row Reply))). IsLife m (record { config = z.0.config; id = id; history = z.1.1 }) z.0.state z.1.0) (λ i. (sym same i, (sym none i, sym is i))) lived
+
+  pub no_finish : (j : Job Args Row) (fault : Fault) → (IsNotDue j (job (site_of node.config.partitions node.state) j.place node.state.scheduler) fault ⊎ ((fault ≡ OutOfMemory) × (job (site_of node.config.partitions node.state) j.place node.state.scheduler ≡ Ok j)))
+      → IsNoFinish m (record { config = node.config; id = id; history = entries }) j fault
+  no_finish j fault (inl not) = inl (node.state, (sent, lived), not)
+  no_finish j fault (inr want) = inr want.0

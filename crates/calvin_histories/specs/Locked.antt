@@ -3,15 +3,19 @@
 --     IsLife m lived state sent      the history gives these data, and has sent these packets
 --     HasLived m lived state      the history gives these data
 --     IsNoEntry m lived entry fault      why an event is no entry that comes next
+--     IsNoFinish m lived j fault      why what came of a job isn't taken
 use Rattle.std.specs.Prelude.{◌≡◌, ◌⊎◌, List, Some}
 use Rattle.calvin_types.specs.declared.fault.Fault.{Fault}
 use Rattle.calvin_types.specs.declared.fault.Fault.TheVariants.{OutOfMemory}
 use Rattle.calvin_types.specs.declared.place.NodeId.{NodeId}
 use Rattle.calvin_types.specs.Deeds.{Refuses}
+use Rattle.calvin_app.specs.declared.job.Job.{Job}
 use Rattle.calvin_app.specs.Meaning.{Meaning}
 use Rattle.calvin_order.specs.Configs.{Config}
+use Rattle.calvin_sched.specs.Keeping.{IsNotDue}
+use Rattle.calvin_sched.specs.Steps.{job}
 use Rattle.calvin_node_packets.specs.declared.packet.Packet.{Packet}
-use Rattle.calvin_node_acts.specs.NodeStates.{NodeState}
+use Rattle.calvin_node_acts.specs.NodeStates.{NodeState, site_of}
 use Rattle.calvin_node_acts.specs.Handling.{NodeDeed}
 use Rattle.calvin_histories.specs.declared.entry.Entry.{Entry}
 use Rattle.calvin_histories.specs.Histories.{new_life, deed_in, life_of}
@@ -31,3 +35,7 @@ module _ {Args Row Reply : Type 0} (m : Meaning Args Row Reply) where
   -- its case says so, or memory ran out
   abbrev pub IsNoEntry : Lived Args Row Reply → Entry Args Row Reply → Fault → Type 0
   IsNoEntry n entry fault = ((state : NodeState Args Row) × HasLived n state × ◌≡◌ {A = NodeDeed Args Row Reply} (deed_in m n.config entry state) (Refuses fault)) ⊎ (fault ≡ OutOfMemory)
+
+  -- no such job is due there, or memory ran out
+  abbrev pub IsNoFinish : Lived Args Row Reply → Job Args Row → Fault → Type 0
+  IsNoFinish n j fault = ((state : NodeState Args Row) × HasLived n state × IsNotDue j (job (site_of n.config.partitions state) j.place state.scheduler) fault) ⊎ (fault ≡ OutOfMemory)

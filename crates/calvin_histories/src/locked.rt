@@ -2,11 +2,12 @@
 ghost use Rattle.std.specs.Prelude.{◌≡◌, [], ◌∷◌, ◌++◌, length, IfErr, OnOk, OnErr};
 ghost use Rattle.calvin_order.specs.Configs.{config_of};
 ghost use Rattle.calvin_node_acts.specs.NodeStates.{NodeState};
+ghost use Rattle.calvin_node_acts.specs.declared.act.Act.TheVariants.{Finish};
 ghost use Rattle.calvin_histories.specs.declared.entry.Entry.TheVariants.{Own, Came};
-ghost use Rattle.calvin_histories.specs.Locked.{IsLife, HasLived, IsNoEntry};
+ghost use Rattle.calvin_histories.specs.Locked.{IsLife, HasLived, IsNoEntry, IsNoFinish};
 
 use crate::entry::{Entry, History};
-use calvin_app::App;
+use calvin_app::{App, Computed};
 use calvin_lock::{Locks, QueueLocks};
 use calvin_node::{Act, Node};
 use calvin_node_packets::{Outbox, Packet};
@@ -84,6 +85,13 @@ impl<A: App + Drop, L: Locks + Drop, S: Rows<A::Row> + Drop> LockedNode<A, L, S>
         self.entries.len()
     }
 
+    /// The entries of its history.
+    pub fn entries(&self) -> &[Entry<A::Args, A::Row, A::Reply>]
+        ensures { result.now ≡ self.now.history }
+    {
+        self.entries.as_slice()
+    }
+
     /// What it has sent, in order: the number of each is the one in its name.
     pub fn sent(&self) -> &[Packet<A::Args, A::Row, A::Reply>]
         ensures { (state : NodeState A.Args A.Row) × IsLife A.meaning self.now state result.now }
@@ -102,6 +110,24 @@ impl<A: App + Drop, L: Locks + Drop, S: Rows<A::Row> + Drop> LockedNode<A, L, S>
         match self.node.act(act, app, &mut self.sent) {
             Ok(()) => {
                 self.entries.push_reserved(Entry::Own(*act));
+                Ok(())
+            }
+            Err(fault) => Err(fault),
+        }
+    }
+
+    /// Takes what came of the node's job: its own event `Finish` of that place happens. Refused as `Node::take_computed` is, or with
+    /// `OutOfMemory` where there was no room for it in the history. Where it is refused nothing changed.
+    pub fn finish_with(&mut self, computed: &Computed<A>) -> Result<(), Fault>
+        ensures ok { OnOk result (self.new ≡ record self.old { history = self.old.history ++ Own (Finish computed.now.job.place) ∷ [] }) }
+        ensures err { OnErr result (self.new ≡ self.old) }
+        ensures only { IfErr result (IsNoFinish A.meaning self.old computed.now.job) }
+    {
+        self.entries.reserve(1)?;
+        match self.node.take_computed(computed, &mut self.sent) {
+            Ok(()) => {
+                self.entries
+                    .push_reserved(Entry::Own(Act::Finish(computed.job.place)));
                 Ok(())
             }
             Err(fault) => Err(fault),
