@@ -1,5 +1,6 @@
 -- A list of events that assembles beginnings of histories grows by one entry, and when none fits it is one of them all, or is stuck.
---     part_more      the part of a longer list at a node
+--     take_next      one more of a list
+--     part_more, sent_more      the part of a longer list at a node; what is sent more
 --     listed_before, indexed_after      the packets before an event are listed still, and after it the others too
 --     fits_not, none_fit      an entry that doesn't fit
 --     begun_none, begun_more      at first nothing is taken; one more entry of a node is
@@ -74,7 +75,7 @@ none_taken n first last is bound e = go (cases_lt first last)
     go (inr most) = omega (arith, is, bound, most)
 
 -- the next one of a list, behind so many
-take_next : {X : Type 0} (xs : List X) (n : ℕ) (x : X) → slice_get xs n ≡ Some x → take (suc n) xs ≡ take n xs ++ x ∷ []
+pub take_next : {X : Type 0} (xs : List X) (n : ℕ) (x : X) → slice_get xs n ≡ Some x → take (suc n) xs ≡ take n xs ++ x ∷ []
 take_next [] n x at = absurd (none-some x at)
 take_next (a ∷ xs) zero x at = let is : a ≡ x = cc in ap (λ y. y ∷ []) is
 take_next (a ∷ xs) (suc n) x at = ap (λ ys. a ∷ ys) (take_next xs n x at)
@@ -96,7 +97,7 @@ module _ {Args Row Reply : Type 0} (m : Meaning Args Row Reply) where
       ∙ (λ k. (of_node id (entry_of w e) ++ part_at m (to k) events id) ++ of_node id (entry_of v event))
 
   -- an event that takes effect sends more packets, if any
-  sent_more : (v : WorldState Args Row Reply) (event : Event Args) (next : WorldState Args Row Reply) → (Done, next) ≡ settles m v event → (more : List (Packet Args Row Reply)) × (next.packets ≡ v.packets ++ more)
+  pub sent_more : (v : WorldState Args Row Reply) (event : Event Args) (next : WorldState Args Row Reply) → (Done, next) ≡ settles m v event → (more : List (Packet Args Row Reply)) × (next.packets ≡ v.packets ++ more)
   sent_more v (At me act) next takes = let d = did v me (deed_of m v.config act) next takes in (d.sent, ap (λ (w : WorldState Args Row Reply). w.packets) d.now)
   sent_more v (Deliver number) next takes = let d = (did_deliver v number next takes).did in (d.sent, ap (λ (w : WorldState Args Row Reply). w.packets) d.now)
 

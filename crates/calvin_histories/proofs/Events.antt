@@ -1,10 +1,10 @@
 -- Which event an entry is, and that it is no other one.
 --     is_own      an own event of a node
 --     Delivered, delivered      an event in which a packet came is the delivery of the one with its name
---     read_at, past_all      the packet of a number, and a number past all
+--     read_at, read_in, past_all      the packet of a number, and a number past all
 --     none_named, other_address, other_packet      where there is none
 --     is_delivery      where there is one
---     at_from, from_at      the names of packets, by who sent them
+--     counts, at_from, from_at      the names of packets, by who sent them
 use Rattle.std.proofs.Common.{◌≡◌, ◌<◌, ◌≤◌, ℕ, zero, suc, Bool, true, false, cond, List, [], ◌∷◌, length, take, Option, Some, None, MatchOption, refl, sym, ap, subst, ◌∙◌, arith}
 use Rattle.std.specs.List.{filter}
 use Rattle.std.specs.Prelude.{slice_get}
@@ -36,6 +36,9 @@ some_is e = cc
 -- what was read at a number
 pub read_at : {X : Type 0} (xs seen : List X) → seen ≡ xs → (n : ℕ) (x : X) → n < length seen → x ≡ get_or seen n x → slice_get xs n ≡ Some x
 read_at xs seen same n x within is = ap (λ ys. slice_get ys n) (sym same) ∙ slice_get-get_or seen n x within ∙ ap Some (sym is)
+
+pub read_in : {X : Type 0} (xs seen : List X) → seen ≡ xs → (n : ℕ) (x : X) → n < length xs → x ≡ get_or seen n x → slice_get xs n ≡ Some x
+read_in xs seen same n x within is = read_at xs seen same n x (subst (λ ys. n < length ys) (sym same) within) is
 
 -- an address that is for a node is the node's
 pub for_node : (to : Address) (id : NodeId) → is_for to id ≡ true → to ≡ AtNode id
@@ -136,7 +139,7 @@ module _ {Args Row Reply : Type 0} where
   -- ---- names, by senders
 
   -- how many of the first ones a node sent
-  counts : (packets : List (Packet Args Row Reply)) (id : NodeId) (n : ℕ) → length (filter (λ a. same_node a id) (take n (senders_of packets))) ≡ length (sent_by id (take n packets))
+  pub counts : (packets : List (Packet Args Row Reply)) (id : NodeId) (n : ℕ) → length (filter (λ a. same_node a id) (take n (senders_of packets))) ≡ length (sent_by id (take n packets))
   counts [] id zero = refl
   counts [] id (suc n) = refl
   counts (p ∷ packets) id zero = refl

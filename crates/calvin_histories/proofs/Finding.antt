@@ -1,4 +1,5 @@
 -- Packets found by their senders' lists.
+--     named_there      the name of the node at a node's place
 --     none_listed      lists of no packets
 --     listed_here, listed_nowhere      one packet more, of a node with a list, and of one without
 --     find      what is found, and that nothing is where nothing is found
@@ -45,7 +46,7 @@ none_listed parts replicas lists number empty = record {
     positive size parts i less (inr none) = let e : parts ≡ 0 = omega (arith, none) in let z : i < size * 0 = subst (λ p. i < size * p) e less in absurd (omega (arith, z))
 
 -- the name of the node at a node's place is the node's
-named_there : (parts : ℕ) (id : NodeId) → id.partition < parts → id_of parts (index_of parts id) ≡ id
+pub named_there : (parts : ℕ) (id : NodeId) → id.partition < parts → id_of parts (index_of parts id) ≡ id
 named_there parts id within = λ i. record { replica = div-mul-add id.replica parts id.partition within i; partition = mod-mul-add id.replica parts id.partition within i }
 
 module _ (parts : ℕ) (lists : List (List ℕ)) (senders : List NodeId) (listed : AreListed parts lists senders) (sender : NodeId) where

@@ -9,3 +9,5 @@ pub mod Lives
 pub mod Assembling
 pub mod Locking
 pub mod Whole
+pub mod Naming
+pub mod Replaying

@@ -1,5 +1,6 @@
 -- Lists of the numbers of each sender's packets.
 --     positions_more      one packet more
+--     positions_count      how many are in it
 --     found, is_found      what stands in such a list, and that it stands there
 use Rattle.std.proofs.Common.{◌≡◌, ℕ, zero, suc, ◌+◌, Bool, true, false, cond, List, [], ◌∷◌, ◌++◌, length, take, Some, refl, sym, ap, ◌∙◌, arith}
 use Rattle.std.specs.List.{filter}
@@ -31,6 +32,14 @@ module _ (id : NodeId) where
           → cond b (n ∷ positions id (suc n) (senders ++ sender ∷ [])) (positions id (suc n) (senders ++ sender ∷ [])) ≡ cond b (n ∷ positions id (suc n) senders) (positions id (suc n) senders) ++ cond (is_here sender) ((n + suc (length senders)) ∷ []) []
       go true rest = ap (λ ks. n ∷ ks) rest
       go false rest = rest
+
+  pub positions_count : (n : ℕ) (senders : List NodeId) → length (positions id n senders) ≡ length (filter is_here senders)
+  positions_count n [] = refl
+  positions_count n (s ∷ senders) = go (is_here s) (positions_count (suc n) senders)
+    where
+      go : (b : Bool) → length (positions id (suc n) senders) ≡ length (filter is_here senders) → length (cond b (n ∷ positions id (suc n) senders) (positions id (suc n) senders)) ≡ length (cond b (s ∷ filter is_here senders) (filter is_here senders))
+      go true e = ap suc e
+      go false e = e
 
   -- what stands at a place of the list
   pub record Found (n : ℕ) (senders : List NodeId) (k j : ℕ) : Type 0 where

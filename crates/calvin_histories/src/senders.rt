@@ -1,8 +1,8 @@
 //! The packets of each sender, by their numbers among all.
-ghost use Rattle.std.specs.Prelude.{◌≡◌, ℕ, List, length, take, [], ◌∷◌, ◌++◌, IfOk, OnOk, OnErr, IsTrue, IsOkUnless, MatchOption, slice_get};
+ghost use Rattle.std.specs.Prelude.{◌≡◌, ℕ, List, length, take, [], ◌∷◌, ◌++◌, ◌*◌, IfOk, OnOk, OnErr, IsTrue, IsOkUnless, MatchOption, slice_get};
 ghost use Rattle.calvin_types.specs.declared.place.NodeId.{NodeId};
 ghost use Rattle.calvin_world.specs.Worlds.{index_of};
-ghost use Rattle.calvin_histories.specs.Positions.{AreListed, IsListed, IsAt, senders_of};
+ghost use Rattle.calvin_histories.specs.Positions.{AreListed, IsListed, IsAt, senders_of, next_name};
 
 use calvin_node_packets::Packet;
 use calvin_types::{Config, Fault, NodeId};
@@ -44,6 +44,13 @@ impl Numbers {
         Ok(())
     }
 
+    /// How many there are.
+    fn len(&self) -> usize
+        ensures { result ≡ length self.now }
+    {
+        self.numbers.len()
+    }
+
     /// The one that has so many before it, if there is one.
     fn get(&self, at: usize) -> Option<usize>
         ensures { result ≡ slice_get self.now at }
@@ -65,6 +72,7 @@ impl Senders {
     /// No packet is listed. Refused with `OutOfMemory` alone.
     pub fn new(alloc: Global, config: &Config) -> Result<Senders, Fault>
         ensures listed { IfOk result (λ s. (s.listed ≡ 0) × AreListed s.partitions s.lists.items []) }
+        ensures nodes { IfOk result (λ s. (s.partitions ≡ config.now.partitions) × (length s.lists.items ≡ config.now.replicas * config.now.partitions)) }
         ensures only { IsOkUnless result Fault.OutOfMemory }
     {
         let nodes = config.replicas as usize * config.partitions as usize;
@@ -95,7 +103,7 @@ impl Senders {
     }
 
     /// The packet of a number, the next one, is from this node. Refused with `OutOfMemory` alone.
-    fn note(&mut self, sender: NodeId, number: usize) -> Result<(), Fault>
+    pub fn note(&mut self, sender: NodeId, number: usize) -> Result<(), Fault>
         ensures same { (self.new.partitions ≡ self.old.partitions) × (length self.new.lists.items ≡ length self.old.lists.items) }
         ensures listed { OnOk result ((senders : List NodeId) → length senders ≡ number → AreListed self.old.partitions self.old.lists.items senders → AreListed self.old.partitions self.new.lists.items (senders ++ sender ∷ [])) }
         ensures only { IsOkUnless result Fault.OutOfMemory }
@@ -126,6 +134,20 @@ impl Senders {
         ensures { IsTrue result → IsListed self.now.partitions self.now.lists.items sender }
     {
         self.place(sender).is_some()
+    }
+
+    /// The name of the packet that a node sends next.
+    pub fn next_name(&self, sender: NodeId) -> PacketName
+        requires { IsListed self.now.partitions self.now.lists.items sender }
+        ensures { (senders : List NodeId) → AreListed self.now.partitions self.now.lists.items senders → result ≡ next_name senders sender }
+    {
+        match self.place(sender) {
+            Some(at) => PacketName {
+                sender,
+                number: self.lists[at].len(),
+            },
+            None => PacketName { sender, number: 0 },
+        }
     }
 
     /// The number of the packet with a name, among those that are listed, if packets of its sender are.

@@ -13,6 +13,16 @@ pub fn give_back_node(node: StoreNode<Kv>) {
     drop(node);
 }
 
+/// Gives the memory of nodes back.
+pub fn give_back_nodes(nodes: Vec<StoreNode<Kv>>) {
+    drop(nodes);
+}
+
+/// Gives a history's memory back.
+pub fn give_back_history(history: History<Kv>) {
+    drop(history);
+}
+
 /// Gives the memory of histories back.
 pub fn give_back_histories(histories: Vec<History<Kv>>) {
     drop(histories);

@@ -10,5 +10,9 @@ mod giving_back;
 mod locked;
 #[cfg(test)]
 mod made;
+#[cfg(test)]
+mod opening;
 
-pub use giving_back::{give_back, give_back_histories, give_back_node};
+pub use giving_back::{
+    give_back, give_back_histories, give_back_history, give_back_node, give_back_nodes,
+};
