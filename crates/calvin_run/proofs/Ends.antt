@@ -1,5 +1,5 @@
 -- What a run ends with.
---     closed_only, not_ended_only, want_only, opened_only, whichever      the faults of a cluster
+--     not_ended_only, want_only, opened_only, whichever      the faults of a cluster
 --     kv_taken, stock_taken, once_taken      a sequencer takes each request of the script that was read
 --     runs_fitting, runs_read, not_read, given_up      a script that is run, or why it isn't
 --     is_ran      what is told of it
@@ -54,10 +54,6 @@ fits_or_ends BadScript is = absurd is
 fits_or_ends fault is = absurd is
 
 module _ {X : Type 0} where
-  pub closed_only : (r : Result X Fault) → IsOkUnless r Closed → IfErr r IsClusterFault
-  closed_only (Ok x) only = tt
-  closed_only (Err fault) only = subst IsClusterFault (sym only) tt
-
   pub not_ended_only : (r : Result X Fault) → IsOkUnless r NotEnded → IfErr r IsClusterFault
   not_ended_only (Ok x) only = tt
   not_ended_only (Err fault) only = subst IsClusterFault (sym only) tt
