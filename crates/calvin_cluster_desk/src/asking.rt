@@ -71,6 +71,7 @@ impl<A: App + Drop, L: Locks + Drop, S: Rows<A::Row> + Drop, J: Founding> Office
     fn ask_at(&mut self, id: NodeId, epochs: u64) {
         self.go_on(id);
         self.lock_all(id);
+        self.look_where_it_stands(id);
         if self.stands_at_end(id, epochs) {
             return;
         }

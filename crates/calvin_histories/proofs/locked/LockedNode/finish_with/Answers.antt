@@ -1,5 +1,5 @@
 -- It is the last entry, or nothing changed.
-use Rattle.std.proofs.Common.{◌++◌, ◌∷◌, [], true, ap, subst, ◌∙◌}
+use Rattle.std.proofs.Common.{◌++◌, ◌∷◌, [], true, Ok, ap, subst, ◌∙◌}
 use Rattle.calvin_node_acts.specs.declared.act.Act.TheVariants.{Finish}
 use Rattle.calvin_histories.specs.declared.entry.Entry.TheVariants.{Own}
 use Rattle.calvin_histories.specs.Locked.{IsNoFinish}
@@ -21,5 +21,5 @@ invariant_of-self-in-Ok g c =
 
 pub returns-in-Ok-clause-ok : goal.returns-in-Ok-clause-ok
 returns-in-Ok-clause-ok g c =
-    (λ i. record { config = config_kept g.A.App.meaning c.self.inside.node c.self.inside.id c.self.inside.entries.items c.self.inside.sent.packets (Own (Finish c.args.computed.now.job.place)) c.self.invariant true c.take_computed.result c.take_computed.new.self c.take_computed.new.outbox.packets c.in-Ok.ensures.did.1 i; id = c.self.inside.id; history = (c.push_reserved.ensures.items ∙ ap (λ es. es ++ Own (Finish c.args.computed.now.job.place) ∷ []) c.reserve.ensures.items) i })
+    (λ i. record { config = config_kept g.A.App.meaning c.self.inside.node c.self.inside.id c.self.inside.entries.items c.self.inside.sent.packets (Own (Finish c.args.computed.now.job.place)) c.self.invariant true (Ok c.in-Ok.field-0) c.take_computed.new.self c.take_computed.new.outbox.packets c.in-Ok.ensures.did.1 i; id = c.self.inside.id; history = (c.push_reserved.ensures.items ∙ ap (λ es. es ++ Own (Finish c.args.computed.now.job.place) ∷ []) c.reserve.ensures.items) i })
     ∙ (λ i. record (c.self.view_is i) { history = (c.self.view_is i).history ++ Own (Finish c.args.computed.now.job.place) ∷ [] })
