@@ -3,7 +3,7 @@
 --     next_of      the name of the packet that it sends next
 --     named_more, named_all      the name of one packet more; in the end of all
 --     for_client, for_node      what the packet of a number is, which comes under its name
-use Rattle.std.proofs.Common.{◌≡◌, ◌⊎◌, ℕ, ◌+◌, ◌*◌, ◌<◌, ◌≤◌, List, [], ◌∷◌, ◌++◌, length, take, Option, Some, None, inl, inr, sym, ap, subst, ◌∙◌, arith}
+use Rattle.std.proofs.Common.{◌≡◌, ◌⊎◌, ℕ, ◌+◌, ◌*◌, ◌<◌, ◌≤◌, List, [], ◌∷◌, ◌++◌, length, take, Option, Some, None, inl, inr, sym, ap, ◌∙◌, arith}
 use Rattle.std.specs.Prelude.{slice_get}
 use Rattle.std.proofs.lemmas.Bool.{cases_lt}
 use Rattle.std.proofs.lemmas.Option.{slice_get_within}
@@ -18,7 +18,7 @@ use Rattle.calvin_world.proofs.InCode.{index_within}
 use Rattle.calvin_histories.specs.declared.entry.Entry.{Entry}
 use Rattle.calvin_histories.specs.declared.entry.Entry.TheVariants.{Came}
 use Rattle.calvin_histories.specs.Histories.{came_to, coming}
-use Rattle.calvin_histories.specs.Positions.{senders_of, positions, AreListed, IsListed, AreThere, AreNamed, next_name}
+use Rattle.calvin_histories.specs.Positions.{senders_of, positions, AreListed, IsListed, AreNamed, next_name}
 use Rattle.calvin_histories.proofs.Positions.{positions_count}
 use Rattle.calvin_histories.proofs.Finding.{named_there}
 use Rattle.calvin_histories.proofs.Events.{counts}

@@ -1,6 +1,5 @@
 //! The nodes of a book, each with its own history.
-ghost use Rattle.std.specs.Prelude.{◌≡◌, true, IfOk};
-ghost use Rattle.calvin_order.specs.Configs.{config_of};
+ghost use Rattle.std.specs.Prelude.{◌≡◌};
 
 use crate::checks::same;
 use crate::giving_back::{give_back, give_back_history, give_back_nodes};
@@ -27,7 +26,7 @@ enum Seen {
 /// A node's name, and what its entries are.
 type Shown = (NodeId, Vec<Seen>);
 
-fn seen(entry: &KvEntry) -> Seen {
+fn kind_of(entry: &KvEntry) -> Seen {
     match entry {
         Entry::Own(act) => Seen::Own(*act),
         Entry::Came(name, packet) => match &packet.content {
@@ -38,11 +37,11 @@ fn seen(entry: &KvEntry) -> Seen {
     }
 }
 
-fn all_seen(alloc: Global, history: &KvHistory) -> Result<Vec<Seen>, Fault> {
+fn kinds_of(alloc: Global, history: &KvHistory) -> Result<Vec<Seen>, Fault> {
     let mut all = Vec::new(alloc);
     for at in 0..history.len() {
         if let Some(entry) = history.get(at) {
-            all.push(seen(entry))?;
+            all.push(kind_of(entry))?;
         }
     }
     Ok(all)
@@ -50,7 +49,7 @@ fn all_seen(alloc: Global, history: &KvHistory) -> Result<Vec<Seen>, Fault> {
 
 fn entries_of(alloc: Global, node: StoreNode<Kv>) -> Result<Vec<Seen>, Fault> {
     let history = node.into_history();
-    let entries = all_seen(alloc, &history);
+    let entries = kinds_of(alloc, &history);
     give_back_history(history);
     entries
 }
@@ -67,13 +66,8 @@ fn apart(alloc: Global, nodes: &mut Vec<StoreNode<Kv>>) -> Result<Vec<Shown>, Fa
     Ok(all)
 }
 
-/// The nodes of a book, the last one first.
-fn shown(alloc: Global, config: &Config, book: KvBook) -> Result<Vec<Shown>, Fault>
-    requires { book.config ≡ config_of config.now true true }
-{
-    let nodes = lock_nodes(alloc, config, &Kv, &book);
-    give_back(book);
-    let mut nodes = nodes?;
+/// Shows nodes, the last one first, and gives them back.
+fn shown(alloc: Global, mut nodes: Vec<StoreNode<Kv>>) -> Result<Vec<Shown>, Fault> {
     let all = apart(alloc, &mut nodes);
     give_back_nodes(nodes);
     all
@@ -89,19 +83,6 @@ fn ask(book: &mut KvBook) -> Result<(), Fault>
     book.apply(&Event::Deliver(2))
 }
 
-fn promised(alloc: Global, config: &Config) -> Result<KvBook, Fault>
-    ensures { IfOk result (λ book. book.config ≡ config_of config.now true true) }
-{
-    let mut book = KvBook::new(alloc, config, Kv)?;
-    match ask(&mut book) {
-        Ok(()) => Ok(book),
-        Err(fault) => {
-            give_back(book);
-            Err(fault)
-        }
-    }
-}
-
 /// The promise is the third packet that was sent, and the first one of its sender.
 #[test]
 fn two_nodes(rt: HostRuntime) -> Result<(), Fail> {
@@ -114,8 +95,12 @@ fn two_nodes(rt: HostRuntime) -> Result<(), Fail> {
         Seen::Promised(name(SECOND_NODE, 0)),
     ]?;
     let wanted = vec![in alloc; (SECOND_NODE, second), (FIRST_NODE, first)]?;
-    let book = promised(alloc, &config)?;
-    same(&rt, shown(alloc, &config, book)?, wanted);
+    let mut book = KvBook::new(alloc, &config, Kv)?;
+    let asked = ask(&mut book);
+    let nodes = lock_nodes(alloc, &config, &Kv, &book);
+    give_back(book);
+    same(&rt, asked, Ok(()));
+    same(&rt, shown(alloc, nodes?)?, wanted);
     Ok(())
 }
 
@@ -136,6 +121,8 @@ fn four_new_nodes(rt: HostRuntime) -> Result<(), Fail> {
         new_node(alloc, 0, 0),
     ]?;
     let book = KvBook::new(alloc, &config, Kv)?;
-    same(&rt, shown(alloc, &config, book)?, wanted);
+    let nodes = lock_nodes(alloc, &config, &Kv, &book);
+    give_back(book);
+    same(&rt, shown(alloc, nodes?)?, wanted);
     Ok(())
 }

@@ -1,5 +1,5 @@
 -- The packets up to here have their names.
-use Rattle.std.proofs.Common.{◌≡◌, ◌≤◌, ◌*◌, length, take}
+use Rattle.std.proofs.Common.{◌≡◌, ◌*◌, length, take}
 use Rattle.calvin_histories.specs.Positions.{AreListed, senders_of}
 use Rattle.calvin_histories.proofs.Naming.{AreNamedTo}
 use Rattle.calvin_histories.proofs.opening.names_of.Given as goal
