@@ -34,6 +34,22 @@ impl<A: App + Drop, L: Locks + Drop, S: Rows<A::Row> + Drop, J: Founding> Office
         }
     }
 
+    /// Whether some node doesn't stand at the end of what was closed, and what it lacks may still be asked for.
+    pub(crate) fn is_missing(&self) -> bool {
+        if self.rounds >= MOST_ROUNDS {
+            return false;
+        }
+        let Some(epochs) = self.epochs() else {
+            return false;
+        };
+        for seat in &self.seats.seats {
+            if !self.stands_at_end(seat.id, epochs) {
+                return true;
+            }
+        }
+        false
+    }
+
     /// How often the same is asked for at a time: once at first, and twice, three times and once again where nothing came of it.
     /// Where every so many packets are lost, what is lost would be the same each time else.
     fn times(&self) -> u32 {

@@ -53,6 +53,11 @@ const NO_NEWS: News = News {
     stood: false,
 };
 
+const ALL_NEWS: News = News {
+    answered: true,
+    stood: true,
+};
+
 impl<A: App + Drop, L: Locks + Drop, S: Rows<A::Row> + Drop, J: Founding> Office<A, L, S, J> {
     /// An office in which nothing is under way: of the packets that were sent before none is handed out. Each node does what it can,
     /// and what the drill says goes wrong.
@@ -118,19 +123,26 @@ impl<A: App + Drop, L: Locks + Drop, S: Rows<A::Row> + Drop, J: Founding> Office
         errand
     }
 
-    /// What comes of asking for what is missing. Where there is no memory to ask for it, that is tried 64 times, and then nothing is
-    /// taken any more: nobody would come back to ask again.
+    /// What comes of asking for what is missing. Where nothing does, those who wait look once more. Where there is no memory to ask for
+    /// it, that is tried 64 times, and then nothing is taken any more: nobody would come back to ask again.
     fn asked_errand(&mut self) -> Option<Errand> {
+        self.news = ALL_NEWS;
         for _ in 0..MOST_TRIES {
             self.desk.is_short = false;
             self.ask_for_all();
             let errand = self.waiting_errand();
-            if errand.is_some() || !self.desk.is_short {
+            if errand.is_some() {
                 return errand;
             }
-            self.rounds = self.rounds.saturating_sub(1);
+            if self.desk.is_short {
+                self.rounds = self.rounds.saturating_sub(1);
+            } else if !self.is_missing() {
+                return None;
+            }
         }
-        self.close_down();
+        if self.desk.is_short {
+            self.close_down();
+        }
         None
     }
 

@@ -202,6 +202,8 @@ impl<A: App + Drop, L: Locks + Drop, S: Rows<A::Row> + Drop, J: Founding> Office
     }
 
     fn queue(&mut self, id: NodeId, place: Place) {
-        let _queued = self.jobs.push_back((id, place));
+        if self.jobs.push_back((id, place)).is_err() {
+            self.desk.is_short = true;
+        }
     }
 }
