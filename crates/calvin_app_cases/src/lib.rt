@@ -10,8 +10,6 @@ mod forward;
 #[cfg(test)]
 mod kv;
 #[cfg(test)]
-mod last_first;
-#[cfg(test)]
 mod locks;
 #[cfg(test)]
 mod rows_seen;

@@ -1,8 +1,7 @@
-//! The worked cases, each public call once, and tables of drawn calls, all for any lock manager: for `ListLocks`, for
-//! `QueueLocks`, and for one that searches its list from the end.
+//! The worked cases, each public call once, and tables of drawn calls, all for any lock manager: for `ListLocks` and for
+//! `QueueLocks`.
 use crate::checks::same;
 use crate::kv::set;
-use crate::last_first::LastFirst;
 use calvin_lock::{ListLocks, Locks, QueueLocks, oldest_is_ready, ready_stays};
 use calvin_types::{Fault, Key, KeySet, Place};
 use std::alloc::Global;
@@ -66,7 +65,6 @@ fn in_sequence<L: Locks + Drop>(rt: &impl Abort, alloc: Global) -> Result<(), Fa
 fn lock_sequence(rt: HostRuntime) -> Result<(), Fail> {
     in_sequence::<ListLocks>(&rt, rt.alloc())?;
     in_sequence::<QueueLocks>(&rt, rt.alloc())?;
-    in_sequence::<LastFirst>(&rt, rt.alloc())?;
     Ok(())
 }
 
@@ -93,7 +91,6 @@ fn queried<L: Locks + Drop>(rt: &impl Abort, alloc: Global) -> Result<(), Fault>
 fn lock_queries(rt: HostRuntime) -> Result<(), Fail> {
     queried::<ListLocks>(&rt, rt.alloc())?;
     queried::<QueueLocks>(&rt, rt.alloc())?;
-    queried::<LastFirst>(&rt, rt.alloc())?;
     Ok(())
 }
 
@@ -124,7 +121,6 @@ fn called<L: Locks + Drop>(rt: &impl Abort, alloc: Global) -> Result<(), Fault> 
 fn calls(rt: HostRuntime) -> Result<(), Fail> {
     called::<ListLocks>(&rt, rt.alloc())?;
     called::<QueueLocks>(&rt, rt.alloc())?;
-    called::<LastFirst>(&rt, rt.alloc())?;
     Ok(())
 }
 
@@ -146,7 +142,6 @@ fn refused<L: Locks + Drop>(rt: &impl Abort, alloc: Global) -> Result<(), Fault>
 fn refused_once(rt: HostRuntime) -> Result<(), Fail> {
     refused::<ListLocks>(&rt, rt.alloc())?;
     refused::<QueueLocks>(&rt, rt.alloc())?;
-    refused::<LastFirst>(&rt, rt.alloc())?;
     Ok(())
 }
 
@@ -221,8 +216,8 @@ fn drawn<L: Locks + Drop>(alloc: Global, start: u64, calls: u32) -> Result<Vec<A
 #[test]
 fn drawn_calls_agree(rt: HostRuntime) -> Result<(), Fail> {
     for start in 1..21 {
-        let answers = drawn::<ListLocks>(rt.alloc(), start, 400)?;
-        let others = drawn::<LastFirst>(rt.alloc(), start, 400)?;
+        let answers = drawn::<ListLocks>(rt.alloc(), start, 2_000)?;
+        let others = drawn::<QueueLocks>(rt.alloc(), start, 2_000)?;
         same(&rt, answers.as_slice(), others.as_slice());
         for wanted in [
             Answer::Number(0),
@@ -239,16 +234,6 @@ fn drawn_calls_agree(rt: HostRuntime) -> Result<(), Fail> {
                 (wanted, true),
             );
         }
-    }
-    Ok(())
-}
-
-#[test]
-fn keepers_agree(rt: HostRuntime) -> Result<(), Fail> {
-    for start in 1..21 {
-        let answers = drawn::<ListLocks>(rt.alloc(), start, 2_000)?;
-        let others = drawn::<QueueLocks>(rt.alloc(), start, 2_000)?;
-        same(&rt, answers.as_slice(), others.as_slice());
     }
     Ok(())
 }
