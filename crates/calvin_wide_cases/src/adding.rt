@@ -152,11 +152,7 @@ fn copy_history(
 }
 
 /// With the first decided batch changed that came to a node with a request, no list assembles the histories.
-fn check_changed<R: Abort>(
-    rt: &R,
-    alloc: Global,
-    histories: &[History<Kv>],
-) -> Result<(), Fault> {
+fn check_changed<R: Abort>(rt: &R, alloc: Global, histories: &[History<Kv>]) -> Result<(), Fault> {
     let mut others = Vec::new(alloc);
     let mut is_changed = false;
     for history in histories {

@@ -18,10 +18,7 @@ use std::test::Fail;
 use std::thread::Threads;
 
 /// A store with so many workers isn't opened, and the book is handed back.
-fn refuse_over<
-    J: WideFounding + 'static,
-    R: Threads + Wait + Abort + Copy + Send + Sync + 'static,
->(
+fn refuse_over<J: WideFounding + 'static, R: Threads + Wait + Abort + Copy + Send + Sync + 'static>(
     rt: R,
     alloc: Global,
     opened: Opened<Entry<KvRequest, u64, KvReply>>,

@@ -21,7 +21,11 @@ pub(crate) fn put_two<J: WideFounding, R: Wait + Abort>(
     let second = cluster.submit(rt, node(0, 0), put(2, 2, 6))?;
     let first = hear(rt, cluster, first)?;
     let second = hear(rt, cluster, second)?;
-    same(rt, (first.answer(), second.answer()), (Some(DONE), Some(DONE)));
+    same(
+        rt,
+        (first.answer(), second.answer()),
+        (Some(DONE), Some(DONE)),
+    );
     let keys = KeySet::from_slice(&[Key { table: 0, id: 1 }])?;
     let get = ask(rt, cluster, node(0, 0), request(7, 3, KvRequest::Get(keys)))?;
     let mut values = Few::new();
