@@ -21,4 +21,4 @@ mod running;
 #[cfg(test)]
 mod stores;
 
-pub use giving_back::{give_back, give_histories_back};
+pub use giving_back::{give_back, give_histories_back, give_receipts_back, give_store_back};
