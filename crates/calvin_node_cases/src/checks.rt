@@ -1,6 +1,9 @@
-//! How a test compares, and what it expects of nodes.
+//! How a test compares, and what it expects of a world.
+use crate::events::{KvAct, KvWorld};
 use calvin_lock::Locks;
-use calvin_node_steps::{Letter, Nodes, Step, number_of};
+use calvin_store::Rows;
+use calvin_types::{Fault, NodeId};
+use calvin_world::Event;
 use std::fmt::Debug;
 use std::process::Abort;
 
@@ -14,48 +17,50 @@ pub(crate) fn same<T: PartialEq + Debug + Drop>(rt: &impl Abort, found: T, wante
     assert_eq!(rt; found, wanted);
 }
 
-/// Events happen one after another, and each takes effect.
-pub(crate) fn run<L: Locks + Drop>(rt: &impl Abort, nodes: &mut Nodes<L>, steps: &[Step]) {
-    same(rt, nodes.run(steps), Ok(()));
+/// A call takes effect, where the number is 0; else it is refused with this number.
+pub(crate) fn ends(rt: &impl Abort, outcome: Result<(), Fault>, number: u8) {
+    same(rt, number_of(outcome), number);
 }
 
-/// An event is refused with this number.
-pub(crate) fn refuse<L: Locks + Drop>(
-    rt: &impl Abort,
-    nodes: &mut Nodes<L>,
-    step: Step,
-    number: u8,
-) {
-    same(rt, number_of(nodes.step(&step)), number);
+/// The number of a refusal, or 0.
+pub(crate) fn number_of(outcome: Result<(), Fault>) -> u8 {
+    match outcome {
+        Ok(()) => 0,
+        Err(fault) => fault.number(),
+    }
 }
 
-/// The packet of this number is this message, from one replica to another.
-pub(crate) fn check_letter<L: Locks + Drop>(
+/// Own events of a node happen one after another, and each takes effect.
+pub(crate) fn act<L: Locks + Drop>(
     rt: &impl Abort,
-    nodes: &Nodes<L>,
-    number: usize,
-    from: u8,
-    to: u8,
-    letter: Letter,
+    world: &mut KvWorld<L>,
+    id: NodeId,
+    acts: &[KvAct],
 ) {
-    same(
-        rt,
-        (number, nodes.has_told(number, from, to, &letter)),
-        (number, true),
-    );
+    for (i, act) in acts.iter().enumerate() {
+        let refusal = number_of(world.step(&Event::At(id, *act)));
+        same(rt, (id, i, refusal), (id, i, 0));
+    }
 }
 
-/// The packets from this number on are this message, from one replica to each of three.
-pub(crate) fn check_letters<L: Locks + Drop>(
+/// Packets are delivered in this order, and each delivery takes effect.
+pub(crate) fn deliver<L: Locks + Drop>(rt: &impl Abort, world: &mut KvWorld<L>, numbers: &[usize]) {
+    for number in numbers {
+        let refusal = number_of(world.step(&Event::Deliver(*number)));
+        same(rt, (*number, refusal), (*number, 0));
+    }
+}
+
+/// A node stands at the end of this epoch, with so many rows.
+pub(crate) fn check_stands<L: Locks + Drop>(
     rt: &impl Abort,
-    nodes: &Nodes<L>,
-    first: usize,
-    from: u8,
-    letter: Letter,
+    world: &KvWorld<L>,
+    id: NodeId,
+    epoch: Option<u64>,
+    rows: usize,
 ) {
-    same(
-        rt,
-        (first, nodes.has_told_all(first, from, &letter)),
-        (first, true),
-    );
+    let found = world
+        .node(id)
+        .map(|node| (node.stands_at(), node.rows().len()));
+    same(rt, (id, found), (id, Some((epoch, rows))));
 }

@@ -5,8 +5,8 @@
 //! `nothing_refused` has passed for many in turn, `refused_once` has to pass (`tools/check_refusals`).
 use crate::checks::{goes_on, same};
 use calvin_app::KvRequest;
-use calvin_node_lives::{Life, ScarceNodes};
-use calvin_node_steps::Step;
+use calvin_node::Act;
+use calvin_node_lives::{Life, Nodes, Step, key, request};
 use calvin_types::{Config, Fault, KeySet, NodeId, Place, Slot};
 use std::alloc::Global;
 use std::process::Abort;
@@ -48,20 +48,23 @@ fn too_early(life: &mut Life, rt: &impl Abort) {
     goes_on(
         rt,
         life.refuse_all(&[
-            (Step::Submit(0, 1, without_keys()), 31),
-            (Step::SubmitCold(0, 1, without_keys()), 31),
-            (Step::Propose(0, 0), 35),
-            (Step::Merge(0), 34),
-            (Step::Lock(0), 48),
-            (Step::Begin(0, FIRST), 41),
+            (Step::Own(0, Act::Submit(request(1, without_keys()))), 31),
+            (
+                Step::Own(0, Act::SubmitCold(request(1, without_keys()))),
+                31,
+            ),
+            (Step::Own(0, Act::Propose(0)), 35),
+            (Step::Own(0, Act::Merge), 34),
+            (Step::Own(0, Act::Lock), 48),
+            (Step::Own(0, Act::Begin(FIRST)), 41),
             (Step::Finish(0, FIRST), 41),
-            (Step::Run(0, FIRST), 41),
-            (Step::Snapshot(0, 0), 50),
-            (Step::AskReads(0, FIRST, 0), 43),
-            (Step::AskReads(0, FIRST, 1), 60),
-            (Step::AskBatch(0, slot(0, 2), NODES[1]), 60),
-            (Step::Mark(0, 0), 56),
-            (Step::Cool(0, 2), 55),
+            (Step::Own(0, Act::Finish(FIRST)), 41),
+            (Step::Own(0, Act::Snapshot(0)), 50),
+            (Step::Own(0, Act::AskForReads(FIRST, 0)), 43),
+            (Step::Own(0, Act::AskForReads(FIRST, 1)), 60),
+            (Step::Own(0, Act::AskForBatch(slot(0, 2), NODES[1])), 60),
+            (Step::Own(0, Act::Mark(0)), 56),
+            (Step::Own(0, Act::Cool(key(2))), 55),
         ]),
     );
 }
@@ -71,10 +74,16 @@ fn too_early(life: &mut Life, rt: &impl Abort) {
 fn agree_on_the_put(life: &mut Life, rt: &impl Abort) {
     goes_on(
         rt,
-        life.endure_all(&[Step::SubmitCold(0, 2, MOVE), Step::Submit(0, 1, PUT)]),
+        life.act_all(
+            0,
+            &[
+                Act::SubmitCold(request(2, MOVE)),
+                Act::Submit(request(1, PUT)),
+            ],
+        ),
     );
     goes_on(rt, life.deliver(0, 2));
-    goes_on(rt, life.endure_all(&[Step::Close(0), Step::Propose(0, 0)]));
+    goes_on(rt, life.act_all(0, &[Act::Close, Act::Propose(0)]));
     goes_on(
         rt,
         life.endure_all(&[Step::Deliver(2), Step::Deliver(2), Step::Deliver(3)]),
@@ -84,11 +93,11 @@ fn agree_on_the_put(life: &mut Life, rt: &impl Abort) {
         life.refuse_all(&[(Step::Deliver(3), 21), (Step::Deliver(4), 21)]),
     );
     goes_on(rt, life.deliver(5, 8));
-    goes_on(rt, life.endure_all(&[Step::Close(1), Step::Propose(1, 0)]));
+    goes_on(rt, life.act_all(1, &[Act::Close, Act::Propose(0)]));
     goes_on(rt, life.deliver(8, 12));
     goes_on(
         rt,
-        life.endure_all(&[Step::AskBatch(0, slot(0, 1), NODES[1])]),
+        life.act_all(0, &[Act::AskForBatch(slot(0, 1), NODES[1])]),
     );
     goes_on(rt, life.deliver(13, 15));
     goes_on(
@@ -96,8 +105,8 @@ fn agree_on_the_put(life: &mut Life, rt: &impl Abort) {
         life.refuse_all(&[
             (Step::Deliver(6), 22),
             (Step::Deliver(12), 22),
-            (Step::Propose(0, 0), 36),
-            (Step::AskBatch(0, slot(0, 1), NODES[1]), 22),
+            (Step::Own(0, Act::Propose(0)), 36),
+            (Step::Own(0, Act::AskForBatch(slot(0, 1), NODES[1])), 22),
         ]),
     );
 }
@@ -107,25 +116,25 @@ fn run_the_put(life: &mut Life, rt: &impl Abort) {
     goes_on(
         rt,
         life.endure_all(&[
-            Step::Merge(0),
-            Step::Merge(1),
-            Step::Lock(0),
-            Step::Lock(1),
-            Step::Begin(1, FIRST),
-            Step::Run(1, FIRST),
-            Step::Snapshot(0, 0),
-            Step::Snapshot(1, 0),
+            Step::Own(0, Act::Merge),
+            Step::Own(1, Act::Merge),
+            Step::Own(0, Act::Lock),
+            Step::Own(1, Act::Lock),
+            Step::Own(1, Act::Begin(FIRST)),
+            Step::Own(1, Act::Finish(FIRST)),
+            Step::Own(0, Act::Snapshot(0)),
+            Step::Own(1, Act::Snapshot(0)),
         ]),
     );
     goes_on(
         rt,
         life.refuse_all(&[
-            (Step::Begin(1, FIRST), 42),
+            (Step::Own(1, Act::Begin(FIRST)), 42),
             (Step::Finish(1, FIRST), 41),
-            (Step::Run(1, FIRST), 41),
-            (Step::Snapshot(1, 0), 51),
-            (Step::Mark(1, 0), 56),
-            (Step::Cool(1, 1), 57),
+            (Step::Own(1, Act::Finish(FIRST)), 41),
+            (Step::Own(1, Act::Snapshot(0)), 51),
+            (Step::Own(1, Act::Mark(0)), 56),
+            (Step::Own(1, Act::Cool(key(1))), 57),
             (Step::Deliver(15), 52),
         ]),
     );
@@ -134,59 +143,65 @@ fn run_the_put(life: &mut Life, rt: &impl Abort) {
 /// Epoch 1: the packets 16 to 20 and 21 to 25 are those of the two batches. Packet 26 brings node 1 its rows; 27, with those
 /// for node 0, is lost, and they are asked for. The replies are packets 30 and 31.
 fn live_epoch_one(life: &mut Life, rt: &impl Abort) {
-    goes_on(rt, life.endure_all(&[Step::Close(0), Step::Propose(0, 1)]));
+    goes_on(rt, life.act_all(0, &[Act::Close, Act::Propose(1)]));
     goes_on(rt, life.deliver(16, 21));
-    goes_on(rt, life.endure_all(&[Step::Close(1), Step::Propose(1, 1)]));
+    goes_on(rt, life.act_all(1, &[Act::Close, Act::Propose(1)]));
     goes_on(rt, life.deliver(21, 26));
-    goes_on(rt, life.endure_all(&[Step::Merge(0), Step::Merge(1)]));
-    goes_on(rt, life.endure_all(&[Step::Lock(0), Step::Lock(1)]));
-    goes_on(
-        rt,
-        life.endure_all(&[Step::Begin(0, SECOND), Step::Begin(1, SECOND)]),
-    );
+    for node in 0..2 {
+        goes_on(
+            rt,
+            life.act_all(node, &[Act::Merge, Act::Lock, Act::Begin(SECOND)]),
+        );
+    }
     goes_on(rt, life.deliver(26, 27));
     goes_on(
         rt,
         life.refuse_all(&[
             (Step::Deliver(26), 43),
             (Step::Finish(0, SECOND), 44),
-            (Step::Run(0, SECOND), 44),
-            (Step::Snapshot(0, 1), 50),
+            (Step::Own(0, Act::Finish(SECOND)), 44),
+            (Step::Own(0, Act::Snapshot(1)), 50),
         ]),
     );
-    goes_on(rt, life.endure_all(&[Step::AskReads(0, SECOND, 0)]));
+    goes_on(rt, life.act_all(0, &[Act::AskForReads(SECOND, 0)]));
     goes_on(rt, life.deliver(28, 30));
     goes_on(
         rt,
-        life.endure_all(&[Step::Finish(0, SECOND), Step::Run(1, SECOND)]),
+        life.endure_all(&[Step::Finish(0, SECOND), Step::Own(1, Act::Finish(SECOND))]),
     );
-    goes_on(rt, life.endure_all(&[Step::Snapshot(0, 1)]));
+    goes_on(rt, life.act_all(0, &[Act::Snapshot(1)]));
 }
 
 /// Node 1 comes back with the rows of epoch 0, is opened from its record, and replays epoch 1: it asks node 0 for the batches
 /// with the packets 32 and 33, and for rows with packet 37. Its rows for node 0 are packet 36, its reply packet 39.
 fn come_back(life: &mut Life, rt: &impl Abort) {
-    goes_on(rt, life.endure_all(&[Step::Restart(1), Step::Reopen]));
+    goes_on(
+        rt,
+        life.endure_all(&[Step::Own(1, Act::Restart), Step::Reopen]),
+    );
     same(rt, life.nodes().stands(1), Some((Some(0), 1)));
     same(rt, life.nodes().row(1, 1), Some(10));
     goes_on(
         rt,
-        life.endure_all(&[
-            Step::AskBatch(1, slot(1, 0), NODES[0]),
-            Step::AskBatch(1, slot(1, 1), NODES[0]),
-        ]),
+        life.act_all(
+            1,
+            &[
+                Act::AskForBatch(slot(1, 0), NODES[0]),
+                Act::AskForBatch(slot(1, 1), NODES[0]),
+            ],
+        ),
     );
     goes_on(rt, life.deliver(32, 36));
     goes_on(
         rt,
-        life.endure_all(&[Step::Merge(1), Step::Lock(1), Step::Begin(1, SECOND)]),
+        life.act_all(1, &[Act::Merge, Act::Lock, Act::Begin(SECOND)]),
     );
     goes_on(rt, life.refuse_all(&[(Step::Deliver(36), 43)]));
-    goes_on(rt, life.endure_all(&[Step::AskReads(1, SECOND, 0)]));
+    goes_on(rt, life.act_all(1, &[Act::AskForReads(SECOND, 0)]));
     goes_on(rt, life.deliver(37, 39));
     goes_on(
         rt,
-        life.endure_all(&[Step::Finish(1, SECOND), Step::Restart(0)]),
+        life.endure_all(&[Step::Finish(1, SECOND), Step::Own(0, Act::Restart)]),
     );
     goes_on(
         rt,
@@ -195,7 +210,7 @@ fn come_back(life: &mut Life, rt: &impl Abort) {
 }
 
 /// Both nodes stand at the end of epoch 1 with what was put and moved, and so many packets were sent.
-fn check_end(rt: &impl Abort, nodes: &ScarceNodes, packets: usize) {
+fn check_end(rt: &impl Abort, nodes: &Nodes, packets: usize) {
     for number in 0..2 {
         same(
             rt,

@@ -3,27 +3,36 @@
 //! are a majority.
 use crate::checks::{goes_on, holds, same};
 use calvin_app::KvRequest;
-use calvin_node_lives::{Life, ScarceNodes};
+use calvin_node::Act;
+use calvin_node_lives::{Life, Nodes, Sent, Step, request};
 use calvin_node_packets::Content;
-use calvin_node_steps::{SLOT, Sent, Step, X, at};
 use calvin_synod::Message;
 use calvin_types::{Ballot, Config, Fault, Place, Slot};
 use std::alloc::Global;
 use std::process::Abort;
 use std::test::Fail;
 
-/// What nodes 1 and 2 have submitted.
+/// What nodes 0, 1 and 2 have submitted.
+const X: KvRequest = KvRequest::Put(1, 5);
+
 const Y: KvRequest = KvRequest::Put(1, 6);
 
 const Z: KvRequest = KvRequest::Put(2, 7);
 
-/// The slots of the epochs 1 and 2.
+/// The slots of the epochs 0, 1 and 2.
+const FIRST: Slot = Slot { epoch: 0, group: 0 };
+
 const SECOND: Slot = Slot { epoch: 1, group: 0 };
 
 const THIRD: Slot = Slot { epoch: 2, group: 0 };
 
+/// The ballot of a round and a replica.
+fn at(round: u32, replica: u8) -> Ballot {
+    Ballot { round, replica }
+}
+
 /// A node has sent the prepares of a ballot of its own, from this number on.
-fn check_prepares(rt: &impl Abort, nodes: &ScarceNodes, first: usize, slot: Slot, ballot: Ballot) {
+fn check_prepares(rt: &impl Abort, nodes: &Nodes, first: usize, slot: Slot, ballot: Ballot) {
     let letter = Message::Prepare { slot, ballot };
     let is_sent = nodes.has_told_all(first, ballot.replica, &letter);
     same(rt, (first, is_sent), (first, true));
@@ -32,7 +41,7 @@ fn check_prepares(rt: &impl Abort, nodes: &ScarceNodes, first: usize, slot: Slot
 /// Node 1 or 2 has refused a ballot for epoch 1, for a promise, to the replica of the ballot.
 fn check_refused(
     rt: &impl Abort,
-    nodes: &ScarceNodes,
+    nodes: &Nodes,
     number: usize,
     from: u8,
     ballot: Ballot,
@@ -65,7 +74,10 @@ fn voted(packet: &Sent) -> Option<Ballot> {
 fn vote_for_x(life: &mut Life, rt: &impl Abort) {
     goes_on(
         rt,
-        life.endure_all(&[Step::Submit(0, 1, X), Step::Close(0), Step::Propose(0, 0)]),
+        life.act_all(
+            0,
+            &[Act::Submit(request(1, X)), Act::Close, Act::Propose(0)],
+        ),
     );
     goes_on(rt, life.deliver(0, 5));
     goes_on(
@@ -95,9 +107,9 @@ fn vote_for_x_again(life: &mut Life, rt: &impl Abort) {
     goes_on(
         rt,
         life.endure_all(&[
-            Step::Submit(1, 2, Y),
-            Step::Close(1),
-            Step::Propose(1, 0),
+            Step::Own(1, Act::Submit(request(2, Y))),
+            Step::Own(1, Act::Close),
+            Step::Own(1, Act::Propose(0)),
             Step::Deliver(18),
             Step::Deliver(20),
         ]),
@@ -107,8 +119,8 @@ fn vote_for_x_again(life: &mut Life, rt: &impl Abort) {
         rt,
         life.endure_all(&[Step::Deliver(25), Step::Deliver(27), Step::Deliver(30)]),
     );
-    holds(rt, life.nodes().hold_same(0, 1, SLOT));
-    holds(rt, life.nodes().hold_same(0, 2, SLOT));
+    holds(rt, life.nodes().hold_same(0, 1, FIRST));
+    holds(rt, life.nodes().hold_same(0, 2, FIRST));
     same(rt, life.nodes().queued(1), Some(1));
 }
 
@@ -116,14 +128,14 @@ fn vote_for_x_again(life: &mut Life, rt: &impl Abort) {
 /// begins with 1: prepares 37 to 39, of which node 1 refuses one with packet 40. So it begins with round 3 and proposes Z:
 /// prepares 41 to 43, promises 44 and 45, accepts 46 to 48.
 fn contend(life: &mut Life, rt: &impl Abort) {
-    goes_on(rt, life.endure_all(&[Step::Close(0), Step::Propose(0, 1)]));
+    goes_on(rt, life.act_all(0, &[Act::Close, Act::Propose(1)]));
     goes_on(rt, life.deliver(32, 34));
     goes_on(
         rt,
         life.endure_all(&[
-            Step::Submit(2, 3, Z),
-            Step::Close(2),
-            Step::Propose(2, 1),
+            Step::Own(2, Act::Submit(request(3, Z))),
+            Step::Own(2, Act::Close),
+            Step::Own(2, Act::Propose(1)),
             Step::Deliver(38),
             Step::Deliver(40),
         ]),
@@ -131,7 +143,7 @@ fn contend(life: &mut Life, rt: &impl Abort) {
     check_prepares(rt, life.nodes(), 37, SECOND, at(1, 2));
     check_refused(rt, life.nodes(), 40, 1, at(1, 2), at(2, 0));
     goes_on(rt, life.refuse_all(&[(Step::Deliver(40), 21)]));
-    goes_on(rt, life.endure_all(&[Step::Propose(2, 1)]));
+    goes_on(rt, life.act_all(2, &[Act::Propose(1)]));
     check_prepares(rt, life.nodes(), 41, SECOND, at(3, 2));
     goes_on(rt, life.deliver(42, 46));
 }
@@ -146,7 +158,7 @@ fn give_way(life: &mut Life, rt: &impl Abort) {
     goes_on(
         rt,
         life.endure_all(&[
-            Step::Propose(0, 1),
+            Step::Own(0, Act::Propose(1)),
             Step::Deliver(47),
             Step::Deliver(48),
             Step::Deliver(58),
@@ -166,15 +178,15 @@ fn run_both(life: &mut Life, rt: &impl Abort) {
     goes_on(
         rt,
         life.endure_all(&[
-            Step::Merge(2),
-            Step::Merge(2),
-            Step::Lock(2),
-            Step::Lock(2),
-            Step::Begin(2, Place { epoch: 0, n: 0 }),
-            Step::Run(2, Place { epoch: 0, n: 0 }),
-            Step::Begin(2, Place { epoch: 1, n: 0 }),
+            Step::Own(2, Act::Merge),
+            Step::Own(2, Act::Merge),
+            Step::Own(2, Act::Lock),
+            Step::Own(2, Act::Lock),
+            Step::Own(2, Act::Begin(Place { epoch: 0, n: 0 })),
+            Step::Own(2, Act::Finish(Place { epoch: 0, n: 0 })),
+            Step::Own(2, Act::Begin(Place { epoch: 1, n: 0 })),
             Step::Finish(2, Place { epoch: 1, n: 0 }),
-            Step::Snapshot(2, 1),
+            Step::Own(2, Act::Snapshot(1)),
         ]),
     );
 }
@@ -186,13 +198,13 @@ fn come_back(life: &mut Life, rt: &impl Abort) {
     goes_on(
         rt,
         life.endure_all(&[
-            Step::Restart(2),
+            Step::Own(2, Act::Restart),
             Step::Reopen,
             Step::Deliver(39),
             Step::Deliver(55),
-            Step::Submit(2, 4, Y),
-            Step::Close(2),
-            Step::Propose(2, 2),
+            Step::Own(2, Act::Submit(request(4, Y))),
+            Step::Own(2, Act::Close),
+            Step::Own(2, Act::Propose(2)),
         ]),
     );
     check_refused(rt, life.nodes(), 75, 2, at(1, 2), at(3, 2));
@@ -207,7 +219,7 @@ fn come_back(life: &mut Life, rt: &impl Abort) {
 }
 
 /// Node 2 stands at the end of epoch 1 with what was put.
-fn check_end(rt: &impl Abort, nodes: &ScarceNodes) {
+fn check_end(rt: &impl Abort, nodes: &Nodes) {
     same(rt, nodes.stands(2), Some((Some(1), 2)));
     same(rt, nodes.row(2, 1), Some(5));
     same(rt, nodes.row(2, 2), Some(7));

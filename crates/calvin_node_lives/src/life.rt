@@ -1,13 +1,10 @@
 //! Lives of nodes in which what is refused for want of memory is tried again.
-use crate::scarce::ScarceRows;
-use calvin_lock::QueueLocks;
-use calvin_node_steps::{Nodes, Step, number_of};
-use calvin_store::PlainRows;
+use crate::nodes::Nodes;
+use crate::step::{Step, number_of};
+use calvin_app::KvRequest;
+use calvin_node::Act;
 use calvin_types::{Config, Fault};
 use std::alloc::Global;
-
-/// Nodes whose rows are plain ones that are refused a load by one growth.
-pub type ScarceNodes = Nodes<QueueLocks, ScarceRows<PlainRows<u64>>>;
 
 /// What goes wrong in a life.
 #[derive(Clone, Copy, PartialEq, Eq, Debug)]
@@ -25,8 +22,8 @@ pub enum Wrong {
 /// What a call says to be wrong stands beside the number of the event among those that it was given, or of the packet.
 #[derive(Drop)]
 pub struct Life {
-    nodes: ScarceNodes,
-    others: ScarceNodes,
+    nodes: Nodes,
+    others: Nodes,
     room: usize,
     refused: usize,
 }
@@ -43,8 +40,8 @@ fn ends(found: u8, wanted: u8) -> Result<(), Wrong> {
 impl Life {
     /// No event has happened yet.
     fn new(alloc: Global, config: Config, room: usize) -> Result<Life, Fault> {
-        let nodes = Nodes::of(alloc, config)?;
-        match Nodes::of(alloc, config) {
+        let nodes = Nodes::new(alloc, config)?;
+        match Nodes::new(alloc, config) {
             Ok(others) => Ok(Life {
                 nodes,
                 others,
@@ -71,7 +68,7 @@ impl Life {
     }
 
     /// The nodes, to be asked.
-    pub fn nodes(&self) -> &ScarceNodes {
+    pub fn nodes(&self) -> &Nodes {
         &self.nodes
     }
 
@@ -139,6 +136,16 @@ impl Life {
     pub fn endure_all(&mut self, steps: &[Step]) -> Result<(), (usize, Wrong)> {
         for (i, step) in steps.iter().enumerate() {
             if let Err(wrong) = self.endure(step) {
+                return Err((i, wrong));
+            }
+        }
+        Ok(())
+    }
+
+    /// Own events of a node take effect one after another.
+    pub fn act_all(&mut self, node: usize, acts: &[Act<KvRequest>]) -> Result<(), (usize, Wrong)> {
+        for (i, act) in acts.iter().enumerate() {
+            if let Err(wrong) = self.endure(&Step::Own(node, *act)) {
                 return Err((i, wrong));
             }
         }

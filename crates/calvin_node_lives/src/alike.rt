@@ -1,8 +1,7 @@
 //! Whether nodes and what they sent are alike.
-use crate::nodes::Numbers;
+use crate::nodes::ScarceNode;
 use crate::shown::{Sent, is_same, key, place};
 use calvin_app::{Kv, is_same_job};
-use calvin_lock::Locks;
 use calvin_store::Rows;
 use calvin_types::{Place, Slot};
 
@@ -24,11 +23,7 @@ pub(crate) fn have_sent_same(some: &[Sent], others: &[Sent]) -> bool {
 }
 
 /// Whether two nodes hold the same batches for an epoch.
-fn hold_same_batches<L: Locks + Drop, S: Rows<u64> + Drop>(
-    one: &Numbers<L, S>,
-    other: &Numbers<L, S>,
-    epoch: u64,
-) -> bool {
+fn hold_same_batches(one: &ScarceNode, other: &ScarceNode, epoch: u64) -> bool {
     for group in 0..GROUPS {
         let slot = Slot { epoch, group };
         if one.held(slot) != other.held(slot) {
@@ -39,11 +34,7 @@ fn hold_same_batches<L: Locks + Drop, S: Rows<u64> + Drop>(
 }
 
 /// Whether the same is to be run at a place of two nodes, or both refuse to tell for the same cause.
-fn have_same_due<L: Locks + Drop, S: Rows<u64> + Drop>(
-    one: &Numbers<L, S>,
-    other: &Numbers<L, S>,
-    at: Place,
-) -> bool {
+fn have_same_due(one: &ScarceNode, other: &ScarceNode, at: Place) -> bool {
     match (one.job(at), other.job(at)) {
         (Ok(due), Ok(other)) => is_same_job::<Kv>(&due, &other),
         (Err(fault), Err(other)) => fault == other,
@@ -52,10 +43,7 @@ fn have_same_due<L: Locks + Drop, S: Rows<u64> + Drop>(
 }
 
 /// Whether two nodes have as many rows, and the same rows for the keys of the lives.
-fn have_same_rows<L: Locks + Drop, S: Rows<u64> + Drop>(
-    one: &Numbers<L, S>,
-    other: &Numbers<L, S>,
-) -> bool {
+fn have_same_rows(one: &ScarceNode, other: &ScarceNode) -> bool {
     for id in KEYS {
         if one.rows().get(&key(id)) != other.rows().get(&key(id)) {
             return false;
@@ -66,10 +54,7 @@ fn have_same_rows<L: Locks + Drop, S: Rows<u64> + Drop>(
 
 /// Whether two nodes tell the same of themselves: the epoch that they close next, how many requests are queued, the batches
 /// that they hold, what is ready and what is to be run, where they stand, and their rows.
-pub(crate) fn tell_same<L: Locks + Drop, S: Rows<u64> + Drop>(
-    one: &Numbers<L, S>,
-    other: &Numbers<L, S>,
-) -> bool {
+pub(crate) fn tell_same(one: &ScarceNode, other: &ScarceNode) -> bool {
     for epoch in 0..EPOCHS {
         if !hold_same_batches(one, other, epoch) || !have_same_due(one, other, place(epoch, 0)) {
             return false;

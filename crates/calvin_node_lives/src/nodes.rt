@@ -1,37 +1,34 @@
 //! Nodes side by side, and the list of all that they sent.
 use crate::alike::{have_sent_same, tell_same};
-use crate::letters::is_letter;
-use crate::shown::{Letter, Sent, copied, is_same, key, request};
-use crate::step::{Step, number_of};
+use crate::scarce::ScarceRows;
+use crate::shown::{Letter, Sent, copied, is_letter, key};
+use crate::step::Step;
 use calvin_app::{Kv, KvRequest};
-use calvin_lock::Locks;
+use calvin_lock::QueueLocks;
 use calvin_node::{Act, Durable, Node};
 use calvin_node_packets::Outbox;
 use calvin_store::{PlainRows, Rows};
-use calvin_types::{Batch, Config, Fault, NodeId, Place, Slot};
+use calvin_types::{Config, Fault, NodeId, Place, Slot};
 use std::alloc::Global;
 
-/// More packets than any case sends.
-const MOST_PACKETS: usize = 1000;
-
-/// A node that runs numbers by key.
-pub(crate) type Numbers<L, S = PlainRows<u64>> = Node<Kv, L, S>;
+/// A node that runs numbers by key, whose rows are plain ones that are refused a load by one growth.
+pub(crate) type ScarceNode = Node<Kv, QueueLocks, ScarceRows<PlainRows<u64>>>;
 
 /// All nodes, numbered from 0 replica by replica, and all packets that they sent, numbered from 0.
 #[derive(Drop)]
-pub struct Nodes<L: Locks + Drop, S: Rows<u64> + Drop = PlainRows<u64>> {
+pub struct Nodes {
     alloc: Global,
     config: Config,
-    nodes: Vec<Numbers<L, S>>,
+    nodes: Vec<ScarceNode>,
     sent: Outbox<Kv>,
 }
 
 /// Adds the nodes of a replica.
-fn add_replica<L: Locks + Drop, S: Rows<u64> + Drop>(
+fn add_replica(
     alloc: Global,
     config: &Config,
     replica: u8,
-    nodes: &mut Vec<Numbers<L, S>>,
+    nodes: &mut Vec<ScarceNode>,
 ) -> Result<(), Fault> {
     for partition in 0..config.partitions {
         let id = NodeId { replica, partition };
@@ -40,14 +37,9 @@ fn add_replica<L: Locks + Drop, S: Rows<u64> + Drop>(
     Ok(())
 }
 
-impl<L: Locks + Drop, S: Rows<u64> + Drop> Nodes<L, S> {
-    /// No event has happened yet, and no request will be held back.
-    pub fn new(alloc: Global, partitions: u8, replicas: u8) -> Result<Nodes<L, S>, Fault> {
-        Nodes::of(alloc, Config::new(partitions, replicas)?)
-    }
-
+impl Nodes {
     /// No event has happened yet.
-    pub fn of(alloc: Global, config: Config) -> Result<Nodes<L, S>, Fault> {
+    pub fn new(alloc: Global, config: Config) -> Result<Nodes, Fault> {
         let mut nodes = Vec::new(alloc);
         for replica in 0..config.replicas {
             add_replica(alloc, &config, replica, &mut nodes)?;
@@ -112,12 +104,6 @@ impl<L: Locks + Drop, S: Rows<u64> + Drop> Nodes<L, S> {
         }
     }
 
-    /// The last node is opened anew from its durable record. Where that is refused, it is opened from the record that was
-    /// handed back.
-    fn reopen(&mut self) -> Result<(), Fault> {
-        self.reopen_under(self.config)
-    }
-
     /// The last node is opened anew from its durable record, under this configuration. Where that is refused, it is opened as it
     /// was, from the record that was handed back.
     pub fn reopen_under(&mut self, config: Config) -> Result<(), Fault> {
@@ -148,7 +134,7 @@ impl<L: Locks + Drop, S: Rows<u64> + Drop> Nodes<L, S> {
     }
 
     /// The outbox has all packets, as before, and memory for so many more, if for four at least. A refusal leaves it.
-    pub fn leave_room(&mut self, room: usize) -> Result<(), Fault> {
+    pub(crate) fn leave_room(&mut self, room: usize) -> Result<(), Fault> {
         let mut sent = Outbox::new(self.alloc);
         self.copy_packets(&mut sent, room)?;
         self.sent = sent;
@@ -157,7 +143,7 @@ impl<L: Locks + Drop, S: Rows<u64> + Drop> Nodes<L, S> {
 
     /// Whether the same packets were sent as by others, and each node tells the same as the other of its number: of what lives
     /// of nodes use, the epochs 0 to 2, the groups 0 and 1, the first place of each epoch, and the keys 1 and 2.
-    pub fn is_alike(&self, others: &Nodes<L, S>) -> bool {
+    pub(crate) fn is_alike(&self, others: &Nodes) -> bool {
         self.nodes.len() == others.nodes.len()
             && have_sent_same(self.packets(), others.packets())
             && self
@@ -167,81 +153,21 @@ impl<L: Locks + Drop, S: Rows<u64> + Drop> Nodes<L, S> {
                 .all(|(one, other)| tell_same(one, other))
     }
 
-    /// A node's own event happens, by its name.
-    pub fn act(&mut self, number: usize, act: &Act<KvRequest>) -> Result<(), Fault> {
+    /// One of a node's own events happens.
+    fn act(&mut self, number: usize, act: &Act<KvRequest>) -> Result<(), Fault> {
         let Some(node) = self.nodes.get_mut(number) else {
             return Err(Fault::NoNode);
         };
         node.act(act, &Kv, &mut self.sent)
     }
 
-    /// Delivers all packets from a number on in turn, those too that are sent meanwhile. What is refused is lost.
-    pub fn settle(&mut self, first: usize) {
-        for number in first..MOST_PACKETS {
-            if number >= self.packets().len() {
-                return;
-            }
-            let _outcome = self.deliver(number);
-        }
-    }
-
     /// An event happens.
     pub fn step(&mut self, step: &Step) -> Result<(), Fault> {
-        let (node, act) = match step {
-            Step::Deliver(number) => return self.deliver(*number),
-            Step::Reopen => return self.reopen(),
-            Step::Finish(node, place) => return self.finish(*node, *place),
-            Step::Submit(node, number, args) => (*node, Act::Submit(request(*number, *args))),
-            Step::SubmitCold(node, number, args) => (
-                *node,
-                Act::SubmitCold(request(*number, *args)),
-            ),
-            Step::Close(node) => (*node, Act::Close),
-            Step::Propose(node, epoch) => (*node, Act::Propose(*epoch)),
-            Step::Merge(node) => (*node, Act::Merge),
-            Step::Lock(node) => (*node, Act::Lock),
-            Step::Begin(node, place) => (*node, Act::Begin(*place)),
-            Step::Run(node, place) => (*node, Act::Finish(*place)),
-            Step::Snapshot(node, epoch) => (*node, Act::Snapshot(*epoch)),
-            Step::Mark(node, epoch) => (*node, Act::Mark(*epoch)),
-            Step::Cool(node, id) => (*node, Act::Cool(key(*id))),
-            Step::AskReads(node, place, replica) => (*node, Act::AskForReads(*place, *replica)),
-            Step::AskBatch(node, slot, of) => (*node, Act::AskForBatch(*slot, *of)),
-            Step::Restart(node) => (*node, Act::Restart),
-        };
-        self.act(node, &act)
-    }
-
-    /// Events happen one after another until one is refused: then this is its number among them, from 0, and the number of
-    /// the refusal.
-    pub fn run(&mut self, steps: &[Step]) -> Result<(), (usize, u8)> {
-        for (i, step) in steps.iter().enumerate() {
-            let refusal = number_of(self.step(step));
-            if refusal > 0 {
-                return Err((i, refusal));
-            }
-        }
-        Ok(())
-    }
-
-    /// How often a packet was sent, from the number `first` on and before the number `last`.
-    pub fn times(&self, first: usize, last: usize, packet: &Sent) -> usize {
-        let mut times: usize = 0;
-        for number in first..last {
-            if let Some(sent) = self.packets().get(number) {
-                if is_same(sent, packet) {
-                    times = times.saturating_add(1);
-                }
-            }
-        }
-        times
-    }
-
-    /// Whether the packet of a number is for this node.
-    pub fn is_for(&self, number: usize, id: NodeId) -> bool {
-        match self.packets().get(number) {
-            Some(packet) => packet.to.is_for(id),
-            None => false,
+        match step {
+            Step::Own(node, act) => self.act(*node, act),
+            Step::Deliver(number) => self.deliver(*number),
+            Step::Finish(node, place) => self.finish(*node, *place),
+            Step::Reopen => self.reopen_under(self.config),
         }
     }
 
@@ -261,14 +187,6 @@ impl<L: Locks + Drop, S: Rows<u64> + Drop> Nodes<L, S> {
         Some(self.nodes.get(number)?.queued())
     }
 
-    /// Whether a node holds this batch for a slot; or none, where none is given.
-    pub fn holds(&self, number: usize, slot: Slot, batch: Option<&Batch<KvRequest>>) -> bool {
-        match self.nodes.get(number) {
-            Some(node) => node.held(slot) == batch,
-            None => false,
-        }
-    }
-
     /// Whether two nodes hold a batch for a slot, and the same.
     pub fn hold_same(&self, one: usize, other: usize, slot: Slot) -> bool {
         match (self.nodes.get(one), self.nodes.get(other)) {
@@ -276,14 +194,6 @@ impl<L: Locks + Drop, S: Rows<u64> + Drop> Nodes<L, S> {
                 one.held(slot).is_some() && one.held(slot) == other.held(slot)
             }
             _ => false,
-        }
-    }
-
-    /// Whether the packet of a number is this one.
-    pub fn has_sent(&self, number: usize, packet: &Sent) -> bool {
-        match self.packets().get(number) {
-            Some(sent) => is_same(sent, packet),
-            None => false,
         }
     }
 

@@ -1,9 +1,8 @@
-//! Requests, batches and packets, to be handed in and compared.
+//! Requests and packets, to be handed in and compared.
 use calvin_app::{KvReply, KvRequest};
-use calvin_node_packets::{Content, Packet};
+use calvin_node_packets::{Address, Content, Packet};
 use calvin_synod::Message;
-use calvin_types::{Batch, Fault, Key, KeySet, Place, RequestId, Sets, Txn};
-use std::alloc::Global;
+use calvin_types::{Batch, Fault, Key, KeySet, NodeId, Place, RequestId, Sets, Txn};
 
 /// What nodes that run numbers by key send.
 pub type Sent = Packet<KvRequest, u64, KvReply>;
@@ -40,13 +39,6 @@ pub fn request(number: u32, args: KvRequest) -> Txn<KvRequest> {
     }
 }
 
-/// The batch of one request.
-pub(crate) fn batch_of(alloc: Global, txn: Txn<KvRequest>) -> Result<Batch<KvRequest>, Fault> {
-    let mut txns = Vec::new(alloc);
-    txns.push(txn)?;
-    Batch::new(alloc, txns)
-}
-
 /// A copy of a packet, whose batch shares the memory.
 pub(crate) fn copied(packet: &Sent) -> Result<Sent, Fault> {
     Ok(Packet {
@@ -79,4 +71,21 @@ fn says_same(one: &Said, other: &Said) -> bool {
 /// Whether two packets are the same.
 pub(crate) fn is_same(one: &Sent, other: &Sent) -> bool {
     one.from == other.from && one.to == other.to && says_same(&one.content, &other.content)
+}
+
+/// The node of a replica, where there is one partition.
+fn node(replica: u8) -> NodeId {
+    NodeId {
+        replica,
+        partition: 0,
+    }
+}
+
+/// Whether a packet is this message, from one replica to another, where there is one partition.
+pub(crate) fn is_letter(packet: &Sent, from: u8, to: u8, letter: &Letter) -> bool {
+    let is_said = match &packet.content {
+        Content::Synod(said) => said == letter,
+        _ => false,
+    };
+    is_said && packet.from == node(from) && packet.to == Address::AtNode(node(to))
 }
