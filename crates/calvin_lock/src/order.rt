@@ -4,11 +4,14 @@ ghost use Rattle.calvin_lock.specs.Unreleased.{Among, Rises, SplitsAt, IsNumberO
 
 use calvin_types::Place;
 
-/// How many places of a rising list aren't past another.
-pub(crate) fn count_up_to(places: &[Place], place: Place) -> usize
+/// How many places of a rising list aren't past another. That one is looked for at `near` first.
+pub(crate) fn count_up_to(places: &[Place], place: Place, near: usize) -> usize
     requires { Rises places.now }
     ensures { SplitsAt places.now place result }
 {
+    if near < places.len() && places[near] == place {
+        return near + 1;
+    }
     match places.binary_search(&place) {
         Ok(i) => i + 1,
         Err(i) => i,

@@ -26,7 +26,8 @@ pub(crate) struct Pending {
 }
 
 /// The unreleased places; and in rising order they and some that were released since, the places that wait for no key
-/// marked by where they stand there. A place is found in expected constant time, and a ready one, in logarithmic time.
+/// marked by where they stand there, and where the one stood that was taken out last, from which the next is looked for. A
+/// place is found in expected constant time, and a ready one, in logarithmic time.
 /// The released ones are taken out of the order when it is full and they are at least three quarters of it: so it has room
 /// for at most eight times as many places as were unreleased at once, or for a few.
 #[derive(Drop)]
@@ -34,6 +35,7 @@ pub(crate) struct Unreleased {
     places: IndexMap<Place, Pending>,
     order: Vec<Place>,
     marks: Marks,
+    last: usize,
 }
 
 /// Takes the released places out of a rising list.
@@ -58,6 +60,7 @@ impl Unreleased {
             places: IndexMap::new(alloc),
             order: Vec::new(alloc),
             marks: Marks::new(alloc),
+            last: 0,
         }
     }
 
@@ -183,6 +186,7 @@ impl Unreleased {
         }
         let number = number_of(self.order.as_slice(), place, pending.near)?;
         self.marks.unmark(number);
+        self.last = number;
         let taken = self.places.swap_remove(&place)?;
         Some(taken.sets)
     }
@@ -203,7 +207,7 @@ impl Unreleased {
         ensures { IsFirstReadyIn self.now.places.entries after result }
     {
         let from = match after {
-            Some(after) => count_up_to(self.order.as_slice(), after),
+            Some(after) => count_up_to(self.order.as_slice(), after, self.last),
             None => 0,
         };
         let number = self.marks.next(from)?;

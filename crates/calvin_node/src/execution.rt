@@ -41,12 +41,14 @@ impl<A: App, L: Locks + Drop, S: Rows<A::Row> + Drop> Node<A, L, S> {
         ensures did { NodeDid (act_grows self.old.config (act.Begin place) self.old.state) result (acting.begin self.old.config place self.old.state) self.old self.new outbox.old.packets outbox.new.packets }
     {
         self.scheduler.due_is_undone();
-        self.scheduler.check_begin(place)?;
         if !self.scheduler.serves_others(place) {
             self.scheduler.begin_in_place(place)?;
             return Ok(());
         }
-        outbox.reserve(MOST_KEYS)?;
+        if outbox.reserve(MOST_KEYS).is_err() {
+            self.scheduler.check_begin(place)?;
+            return Err(Fault::OutOfMemory);
+        }
         self.scheduler.begin_in_place(place)?;
         let me = self.layer.id();
         post_served(&self.scheduler, self.layer.config(), me, place, outbox);

@@ -45,10 +45,13 @@ fn is_same<Args: Copy>(a: &Txn<Args>, b: &Txn<Args>) -> bool
     a.id.client == b.id.client && a.id.number == b.id.number && a.attempt == b.attempt
 }
 
-/// Whether a batch has a request.
-fn is_among<Args: Copy>(txn: &Txn<Args>, batch: &[Txn<Args>]) -> bool
+/// Whether a batch has a request. It is looked for first with `near` requests before it, and then from the front.
+fn is_among<Args: Copy>(txn: &Txn<Args>, batch: &[Txn<Args>], near: usize) -> bool
     ensures { result ≡ list_any (same_attempt txn.now) batch.now }
 {
+    if near < batch.len() && is_same(txn, &batch[near]) {
+        return true;
+    }
     for other in batch {
         if is_same(txn, other) {
             return true;
@@ -71,9 +74,9 @@ fn put_missing<Args: Copy>(
     let mut i = closed.len();
     while i > 0 {
         i -= 1;
-        let txn = closed[i];
-        if !is_among(&txn, decided) {
-            queue.push_front_reserved(txn);
+        let txn = &closed[i];
+        if !is_among(txn, decided, i) {
+            queue.push_front_reserved(*txn);
         }
     }
 }

@@ -6,20 +6,18 @@ ghost use Rattle.std.specs.FinMap as map;
 use calvin_app::{App, View};
 use calvin_types::Fault;
 use std::alloc::Global;
-use std::collections::HashMap;
 use std::marker::Model;
 
-/// At most one view of each partition. Room for some more can be reserved.
+/// At most one view of each partition. Room for some more can be reserved. They lie in a list that is looked through from its
+/// end, so that of two of one partition the later counts. There are no more than partitions that send some for the request.
 #[derive(Drop)]
 pub struct Came<A: App> {
-    views: HashMap<u8, View<A::Row>>,
-    room: usize,
+    views: Vec<(u8, View<A::Row>)>,
 }
 
 impl<A: App> Model for Came<A> {
-    ghost use Rattle.std.specs.Prelude.{◌≤◌};
+    ghost use Rattle.std.specs.Prelude.{◌-◌, reverse, vec_len, vec_capacity};
     ghost use Rattle.std.specs.FinMap.{from_entries};
-    ghost use Rattle.std.specs.HashMap.{spare};
     ghost use Rattle.std.specs.Coded.{codes};
     ghost use Rattle.std.specs.FinMap.{code};
     ghost use Rattle.calvin_sched.specs.Keeping as keeping;
@@ -28,9 +26,7 @@ impl<A: App> Model for Came<A> {
 
     ghost coded = { Prim.hlevel (codes, code) };
 
-    ghost view = { λ c. record { rows = from_entries c.views.entries; room = c.room } };
-
-    ghost invariant = { λ c. c.room ≤ spare c.views };
+    ghost view = { λ c. record { rows = from_entries (reverse c.views.items); room = vec_capacity c.views - vec_len c.views } };
 }
 
 impl<A: App> Came<A> {
@@ -39,8 +35,7 @@ impl<A: App> Came<A> {
         ensures { result ≡ record { rows = map.empty; room = 0 } }
     {
         Came {
-            views: HashMap::new(alloc),
-            room: 0,
+            views: Vec::new(alloc),
         }
     }
 
@@ -48,14 +43,22 @@ impl<A: App> Came<A> {
     pub fn get(&self, partition: u8) -> Option<&View<A::Row>>
         ensures { option_copied result ≡ map.get self.now.rows partition }
     {
-        self.views.get(&partition)
+        let mut i = self.views.len();
+        while i > 0 {
+            i -= 1;
+            let view = &self.views[i];
+            if partition == view.0 {
+                return Some(&view.1);
+            }
+        }
+        None
     }
 
     /// Whether rows of a partition came.
     pub fn has(&self, partition: u8) -> bool
         ensures { result ≡ is_some (map.get self.now.rows partition) }
     {
-        self.views.contains_key(&partition)
+        self.get(partition).is_some()
     }
 
     /// Puts the rows of a partition. There is room for them.
@@ -63,9 +66,7 @@ impl<A: App> Came<A> {
         requires { 0 < self.old.room }
         ensures { self.new ≡ record { rows = map.insert self.old.rows partition view; room = self.old.room - 1 } }
     {
-        let put: Result<_, _> = self.views.insert(partition, view);
-        let _before = put.unwrap();
-        self.room -= 1;
+        self.views.push_reserved((partition, view));
     }
 
     /// Room for the rows of so many partitions at least.
@@ -75,11 +76,7 @@ impl<A: App> Came<A> {
         ensures only { IsOkUnless result Fault.OutOfMemory }
         ensures succeeds { partitions ≤ self.old.room → IsOk result }
     {
-        if partitions <= self.room {
-            return Ok(());
-        }
-        self.views.reserve(partitions)?;
-        self.room = partitions;
+        self.views.reserve_exact(partitions)?;
         Ok(())
     }
 }

@@ -60,5 +60,5 @@ returns g c =
           (subst (λ d. NodeDid {Reply = reply} (act_grows config (Begin c.args.place) x) (Ok tt) (acting.begin config c.args.place x) (running config x) (running config (record x { scheduler = s; due = d })) sent all)
           (sym (left_then p.scheduler.scheduling s p.scheduler.due c.begin_in_place-2.new.self.due c.in_ok-begin_in_place-2.ensures.due c.due_is_undone.ensures))
           (begun reply config x c.args.place sent out s did true read all
-          (c.post_served.ensures.some begun_here.0 begun_here.1 ∙ (λ i. c.in_ok-reserve.ensures.packets i ++ to_each (c.id-me.ensures i) (c.id-me.ensures i).replica (Reads c.args.place out.rows) (other_active (site (c.config.ensures.partitions i) (c.id-me.ensures i).partition) begun_here.0.request)))));
+          (c.post_served.ensures.some begun_here.0 begun_here.1 ∙ (λ i. c.reserve.ensures.packets i ++ to_each (c.id-me.ensures i) (c.id-me.ensures i).replica (Reads c.args.place out.rows) (other_active (site (c.config.ensures.partitions i) (c.id-me.ensures i).partition) begun_here.0.request)))));
     }
