@@ -1,15 +1,16 @@
 //! A load on a running store: one caller submits requests of the application of numbers by key, each on a key of its own, so many
 //! of them before it waits for the first of these, so that what a request takes can be measured. It prints how many were answered.
 //!
-//!     calvin_cluster_load REQUESTS AHEAD WORKERS MICROSECONDS PARTITIONS REPLICAS
+//!     calvin_cluster_load REQUESTS AHEAD WORKERS MICROSECONDS PARTITIONS REPLICAS [spread]
 //!
-//! Each request takes a worker so many microseconds beside what it takes itself.
+//! Each request takes a worker so many microseconds beside what it takes itself. All are submitted at node (0, 0); with the last word
+//! each is at the node of replica 0 that has its key, partition by partition in turn.
 #![tactic(auto)]
 
 mod gate;
 mod running;
 
-use crate::running::{Load, run};
+use crate::running::{Desks, Load, run};
 use std::process::ExitCode;
 use std::{env, io};
 
@@ -23,6 +24,7 @@ fn load_of(words: &[String]) -> Option<Load> {
         micros,
         partitions,
         replicas,
+        more @ ..,
     ] = words
     else {
         return None;
@@ -34,14 +36,24 @@ fn load_of(words: &[String]) -> Option<Load> {
         micros: micros.as_str().parse::<u64>().ok()?,
         partitions: partitions.as_str().parse::<u8>().ok()?,
         replicas: replicas.as_str().parse::<u8>().ok()?,
+        desks: desks_of(more)?,
     })
+}
+
+/// Where requests are submitted, by the words behind the numbers.
+fn desks_of(words: &[String]) -> Option<Desks> {
+    match words {
+        [] => Some(Desks::One),
+        [word] if word.as_str() == "spread" => Some(Desks::Spread),
+        _ => None,
+    }
 }
 
 fn main(rt: HostRuntime) -> io::Result<ExitCode> {
     let words: Vec<String> = env::args(&rt)?.collect(rt.alloc())?;
     let Some(load) = load_of(words.as_slice()) else {
         eprintln!(rt;
-            "calvin_cluster_load REQUESTS AHEAD WORKERS MICROSECONDS PARTITIONS REPLICAS"
+            "calvin_cluster_load REQUESTS AHEAD WORKERS MICROSECONDS PARTITIONS REPLICAS [spread]"
         )?;
         return Ok(ExitCode::from(2));
     };

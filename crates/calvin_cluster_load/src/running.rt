@@ -13,8 +13,17 @@ use std::sync::Wait;
 use std::thread::Threads;
 use std::time::{Clock, Duration};
 
+/// Where requests are submitted.
+#[derive(Clone, Copy, Debug, PartialEq, Eq)]
+pub(crate) enum Desks {
+    /// At node (0, 0).
+    One,
+    /// Each at the node of replica 0 that has its key.
+    Spread,
+}
+
 /// What is run: how many requests, how many of them are submitted before the first of these is waited for, by how many workers,
-/// how many microseconds each takes at the gate, and how large the store is.
+/// how many microseconds each takes at the gate, how large the store is, and where requests are submitted.
 #[derive(Clone, Copy)]
 pub(crate) struct Load {
     pub requests: u32,
@@ -23,15 +32,26 @@ pub(crate) struct Load {
     pub micros: u64,
     pub partitions: u8,
     pub replicas: u8,
+    pub desks: Desks,
 }
 
 type Loaded<G, J> = StoreCluster<Kv, G, J>;
 
-/// Where all requests are submitted.
-const DESK: NodeId = NodeId {
-    replica: 0,
-    partition: 0,
-};
+/// The node of replica 0 where the request of a number is submitted.
+fn desk_of(number: u32, load: &Load) -> NodeId {
+    let turn = match load.desks {
+        Desks::One => 0,
+        Desks::Spread => number,
+    };
+    let partition = match turn.checked_rem(u32::from(load.partitions)) {
+        Some(partition) => partition as u8,
+        None => 0,
+    };
+    NodeId {
+        replica: 0,
+        partition,
+    }
+}
 
 /// The request of a number, a put on a key of its own.
 fn request(number: u32) -> Txn<KvRequest> {
@@ -54,12 +74,14 @@ fn submit_all<R: Wait + Clock + Send + Sync + Drop, J: Founding>(
     rt: &R,
     alloc: Global,
     cluster: &Loaded<Slow<R>, J>,
+    load: &Load,
     first: u32,
     last: u32,
 ) -> Result<Vec<Ticket<Kv, J>>, Fault> {
     let mut tickets = Vec::new(alloc);
     for number in first..last {
-        tickets.push(cluster.submit(rt, &Told::new(), DESK, request(number))?)?;
+        let desk = desk_of(number, load);
+        tickets.push(cluster.submit(rt, &Told::new(), desk, request(number))?)?;
     }
     Ok(tickets)
 }
@@ -69,11 +91,12 @@ fn ask_all<R: Wait + Clock + Send + Sync + Drop, J: Founding>(
     rt: &R,
     alloc: Global,
     cluster: &Loaded<Slow<R>, J>,
+    load: &Load,
     first: u32,
     last: u32,
 ) -> Result<u32, Fault> {
     let mut answered: u32 = 0;
-    for ticket in &submit_all(rt, alloc, cluster, first, last)? {
+    for ticket in &submit_all(rt, alloc, cluster, load, first, last)? {
         let _heard = cluster.wait(rt, ticket)?;
         answered = answered.saturating_add(1);
     }
@@ -91,7 +114,7 @@ fn call<R: Wait + Clock + Send + Sync + Drop, J: Founding>(
     let mut answered: u32 = 0;
     for _ in 0..load.requests {
         let last = load.ahead.max(1).saturating_add(next).min(load.requests);
-        answered = ask_all(rt, alloc, cluster, next, last)?.saturating_add(answered);
+        answered = ask_all(rt, alloc, cluster, load, next, last)?.saturating_add(answered);
         next = last;
     }
     Ok(answered)

@@ -1,7 +1,7 @@
 //! What a caller does.
-use crate::drawing::{Run, node_of, request_of};
 use calvin_app::{Answer, Kv, KvReply};
 use calvin_cluster::{Founding, Open, StoreCluster, Told};
+use calvin_stress_draws::{Run, node_of, request_of};
 use calvin_types::{Fault, RequestId};
 use std::alloc::Global;
 use std::sync::Wait;

@@ -1,104 +1,10 @@
-//! A plain checker: requests one at a time, over a plain map.
+//! Whether the answers of a run are right.
 use crate::calling::Seen;
-use crate::drawing::args_of;
-use calvin_app::{Answer, Kv, KvReply, KvRequest};
+use calvin_app::Kv;
 use calvin_book::StoreBook;
-use calvin_node_packets::Content;
-use calvin_types::{Fault, Few, MOST_KEYS, Place, RequestId};
+use calvin_stress_draws::right_replies;
+use calvin_types::Fault;
 use std::alloc::Global;
-use std::collections::HashMap;
-
-/// A reply: where its request stands, which it is, and what it was answered.
-#[derive(Clone, Copy)]
-struct Replied {
-    place: Place,
-    id: RequestId,
-    answer: Answer<KvReply>,
-}
-
-/// The replies of a book, one of each place, by ascending places; none where two of one place differ.
-fn replies(alloc: Global, book: &StoreBook<Kv>) -> Result<Option<Vec<Replied>>, Fault> {
-    let mut by_place: HashMap<Place, Replied> = HashMap::new(alloc);
-    let mut places = Vec::new(alloc);
-    for packet in book.world().packets() {
-        let Content::Replies(place, id, _attempt, answer) = &packet.content else {
-            continue;
-        };
-        match by_place.get(place) {
-            Some(reply) => {
-                if reply.id != *id || reply.answer != *answer {
-                    return Ok(None);
-                }
-            }
-            None => {
-                places.push(*place)?;
-                by_place.insert(
-                    *place,
-                    Replied {
-                        place: *place,
-                        id: *id,
-                        answer: *answer,
-                    },
-                )?;
-            }
-        }
-    }
-    places.sort()?;
-    let mut all = Vec::new(alloc);
-    for place in &places {
-        if let Some(reply) = by_place.get(place) {
-            all.push(*reply)?;
-        }
-    }
-    Ok(Some(all))
-}
-
-/// The number under a key; 0 where there is none.
-fn value_of(rows: &HashMap<u64, u64>, key: u64) -> u64 {
-    rows.get(&key).copied().unwrap_or(0)
-}
-
-/// What a request is answered on these rows, which it changes.
-fn run_plain(args: &KvRequest, rows: &mut HashMap<u64, u64>) -> Result<KvReply, Fault> {
-    match args {
-        KvRequest::Put(key, value) => {
-            rows.insert(*key, *value)?;
-            Ok(KvReply::Done)
-        }
-        KvRequest::Get(keys) => {
-            let mut values = Few::new();
-            for i in 0..keys.len() {
-                if values.len() < MOST_KEYS {
-                    values.push(rows.get(&keys.at(i).id).copied());
-                }
-            }
-            Ok(KvReply::Values(values))
-        }
-        KvRequest::Add(key, more) => {
-            let sum = value_of(rows, *key).saturating_add(*more);
-            rows.insert(*key, sum)?;
-            Ok(KvReply::Value(sum))
-        }
-        KvRequest::Move(from, to, number) => move_plain(*from, *to, *number, rows),
-        KvRequest::Follow(_) => Ok(KvReply::Found(None)),
-    }
-}
-
-fn move_plain(
-    from: u64,
-    to: u64,
-    number: u64,
-    rows: &mut HashMap<u64, u64>,
-) -> Result<KvReply, Fault> {
-    let had = value_of(rows, from);
-    let Some(left) = had.checked_sub(number) else {
-        return Ok(KvReply::Short);
-    };
-    rows.insert(from, left)?;
-    let sum = value_of(rows, to).saturating_add(number);
-    rows.insert(to, sum)?;
-    Ok(KvReply::Done)
-}
 
 /// Whether each reply is that of the serial run of all that stand before it, and each caller saw the answer of its request's place, at
 /// an epoch above the one that it had been told of and not above the one that it was told.
@@ -108,18 +14,9 @@ pub(crate) fn is_right(
     book: &StoreBook<Kv>,
     seen: &[Seen],
 ) -> Result<bool, Fault> {
-    let Some(all) = replies(alloc, book)? else {
+    let Some(by_id) = right_replies(alloc, number, book)? else {
         return Ok(false);
     };
-    let mut rows = HashMap::new(alloc);
-    let mut by_id: HashMap<RequestId, Replied> = HashMap::new(alloc);
-    for reply in &all {
-        let wanted = run_plain(&args_of(number, reply.id), &mut rows)?;
-        if reply.answer != Answer::Reply(wanted) || by_id.contains_key(&reply.id) {
-            return Ok(false);
-        }
-        by_id.insert(reply.id, *reply)?;
-    }
     for one in seen {
         let Some(reply) = by_id.get(&one.id) else {
             return Ok(false);

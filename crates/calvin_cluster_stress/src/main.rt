@@ -11,7 +11,6 @@
 
 mod calling;
 mod checking;
-mod drawing;
 mod running;
 
 use crate::running::run;

@@ -3,10 +3,10 @@ ghost use Rattle.std.specs.Prelude.{◌≡◌};
 
 use crate::calling::{KvCluster, Seen, call};
 use crate::checking::is_right;
-use crate::drawing::{Run, run_of};
 use calvin_app::{Kv, KvRequest};
 use calvin_book::StoreBook;
 use calvin_cluster::{Founding, Open, Opened};
+use calvin_stress_draws::{Run, run_of};
 use calvin_types::{Config, Fault};
 use calvin_world::Event;
 use std::alloc::Global;

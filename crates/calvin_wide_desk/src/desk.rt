@@ -94,16 +94,6 @@ impl<A: App + Drop, L: Locks + Drop, S: Rows<A::Row> + Drop, J: WideFounding> Wi
         self.locked.id()
     }
 
-    /// The number of the node among all. None where another hand wrote into its history.
-    pub fn number(&self) -> Option<u64>
-        ensures { IfSome result (λ n. self.now.id ≡ id_of J.config.partitions n) }
-    {
-        match &self.pen {
-            Some(pen) => Some(pen.node()),
-            None => None,
-        }
-    }
-
     /// The node.
     pub fn locked(&self) -> &LockedNode<A, L, S>
         ensures { result.now ≡ self.now }

@@ -9,7 +9,7 @@ const KEYS: u32 = 6;
 
 /// A run.
 #[derive(Clone, Copy)]
-pub(crate) struct Run {
+pub struct Run {
     pub number: u64,
     pub partitions: u8,
     pub replicas: u8,
@@ -17,7 +17,7 @@ pub(crate) struct Run {
     pub callers: usize,
     /// How many requests each caller submits.
     pub requests: u32,
-    /// After how many requests the first caller halts the cluster, if it does.
+    /// After how many requests the first caller halts the store, if it does.
     pub halts: Option<u32>,
 }
 
@@ -31,7 +31,7 @@ fn byte(generator: &mut Pcg32, below: u8) -> u8 {
 }
 
 /// The run of a number.
-pub(crate) fn run_of(number: u64) -> Run {
+pub fn run_of(number: u64) -> Run {
     let mut generator = Pcg32::new(number, 3);
     let workers = match draw(&mut generator, 4) {
         0 => 1,
@@ -76,12 +76,12 @@ pub(crate) fn args_of(number: u64, id: RequestId) -> KvRequest {
     }
 }
 
-pub(crate) fn key(id: u64) -> Key {
+fn key(id: u64) -> Key {
     Key { table: 0, id }
 }
 
 /// The request of a run with an id, which declares the sets that it needs.
-pub(crate) fn request_of(number: u64, id: RequestId) -> Txn<KvRequest> {
+pub fn request_of(number: u64, id: RequestId) -> Txn<KvRequest> {
     let args = args_of(number, id);
     let mut sets = Sets {
         reads: KeySet::new(),
@@ -97,7 +97,7 @@ pub(crate) fn request_of(number: u64, id: RequestId) -> Txn<KvRequest> {
 }
 
 /// At which node it is submitted.
-pub(crate) fn node_of(run: &Run, id: RequestId) -> NodeId {
+pub fn node_of(run: &Run, id: RequestId) -> NodeId {
     let mut generator = Pcg32::new(u64::from(id.client) * 64 + u64::from(id.number), 7);
     NodeId {
         replica: byte(&mut generator, run.replicas),
