@@ -23,6 +23,7 @@ use calvin_text::{Printed, push_last};
 use calvin_types::Fault;
 use calvin_world::{StoreWorld, World};
 use std::alloc::Global;
+use std::mem;
 
 /// What is told of a script.
 #[derive(Drop)]
@@ -57,7 +58,8 @@ where
     }
 }
 
-/// What is told of a script for an application.
+/// What is told of a script for an application. The world stays in memory: who runs one ends thereafter, and to give back many
+/// small pieces one by one takes a twentieth of the whole run.
 fn report_of<A: App + Drop>(
     alloc: Global,
     app: A,
@@ -73,7 +75,9 @@ where
     let mut world = StoreWorld::<A>::new(alloc, &script.config, app)?;
     let mut text = Vec::new(alloc);
     run_events(&mut world, &script.events, &mut text)?;
-    let is_expected = tell_world(alloc, &world, &script.expect, &mut text)?;
+    let told = tell_world(alloc, &world, &script.expect, &mut text);
+    mem::forget(world);
+    let is_expected = told?;
     Ok(Report { text, is_expected })
 }
 

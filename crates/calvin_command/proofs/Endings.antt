@@ -1,5 +1,5 @@
 -- How the program ends for a fault.
-use Rattle.std.proofs.Common.{◌≡◌, ◌≢◌, ◌⊎◌, ◌+◌, ◌<◌, ◌∙◌, ℕ, List, length, take, inl, inr, refl, sym, ap, subst, arith, Option, Some, None, Result, Ok, Err, IfSome}
+use Rattle.std.proofs.Common.{◌≡◌, ◌≢◌, ◌⊎◌, ◌+◌, ◌<◌, ◌∙◌, ℕ, Bool, true, List, length, take, inl, inr, refl, sym, ap, subst, arith, Option, Some, None, Result, Ok, Err, IfSome}
 use Rattle.std.specs.Prelude.{IsErr}
 use Rattle.std.specs.Io.KnownBytes.{Appends}
 use Rattle.calvin_types.specs.declared.fault.Fault.{Fault}
@@ -49,10 +49,11 @@ sim_status WriteFailed h = inr (inr (inr (inr refl)))
 sim_status _ h = absurd h
 
 -- and one of the engine `run`
-pub run_status : (fault : Fault) → IsRunFault fault → IsStatus (status_of fault)
-run_status Closed h = inr (inr (inl refl))
-run_status NotEnded h = inr (inr (inl refl))
-run_status fault h = sim_status fault h
+pub run_status : (wide : Bool) (fault : Fault) → IsRunFault wide fault → IsStatus (status_of fault)
+run_status wide Closed h = inr (inr (inl refl))
+run_status wide NotEnded h = inr (inr (inl refl))
+run_status wide NoRun h = inr (inr (inl refl))
+run_status wide fault h = sim_status fault h
 
 -- ---- a run that ended by a fault
 
@@ -65,38 +66,41 @@ is_refusal ReadFailed answer e refuses = absurd (omega (arith, e))
 is_refusal WriteFailed answer e refuses = absurd (omega (arith, e))
 is_refusal _ answer e refuses = absurd refuses
 
-is_run_refusal : (fault : Fault) (answer : Result (Unit {0}) Fault) → status_of fault ≡ 2 → RefusesRun fault answer → answer ≡ Err fault
-is_run_refusal Closed answer e refuses = absurd (omega (arith, e))
-is_run_refusal NotEnded answer e refuses = absurd (omega (arith, e))
-is_run_refusal fault answer e refuses = is_refusal fault answer e refuses
+is_run_refusal : (wide : Bool) (fault : Fault) (answer : Result (Unit {0}) Fault) → status_of fault ≡ 2 → RefusesRun wide fault answer → answer ≡ Err fault
+is_run_refusal wide Closed answer e refuses = absurd (omega (arith, e))
+is_run_refusal wide NotEnded answer e refuses = absurd (omega (arith, e))
+is_run_refusal wide NoRun answer e refuses = absurd (omega (arith, e))
+is_run_refusal wide fault answer e refuses = is_refusal fault answer e refuses
 
 -- only a failed write makes the output's failures more
 is_failed_write : (fault : Fault) (failures later : ℕ) → (fault ≢ WriteFailed → later ≡ failures) → later ≡ failures + 1 → fault ≡ WriteFailed
 is_failed_write WriteFailed failures later well more = refl
 is_failed_write _ failures later well more = let same = well (λ e. cc) in absurd (omega (arith, same, more))
 
--- ---- a cluster that closed early, or is still shared
+-- ---- a cluster that closed early, is still shared, or has histories that no list gives
 
-abbrev EndsEarly : Fault → Type 0
-EndsEarly fault = (fault ≡ Closed) ⊎ (fault ≡ NotEnded)
+abbrev EndsEarly : Bool → Fault → Type 0
+EndsEarly wide fault = (fault ≡ Closed) ⊎ (fault ≡ NotEnded) ⊎ ((wide ≡ true) × (fault ≡ NoRun))
 
-ends_early : (fault : Fault) → IsRunFault fault → status_of fault ≡ 3 → EndsEarly fault
-ends_early Closed run e = inl refl
-ends_early NotEnded run e = inr refl
-ends_early NotExpected run e = absurd run
-ends_early NoRun run e = absurd run
-ends_early OutOfMemory run e = absurd (omega (arith, e))
-ends_early ReadFailed run e = absurd (omega (arith, e))
-ends_early WriteFailed run e = absurd (omega (arith, e))
-ends_early _ run e = absurd (omega (arith, e))
+ends_early : (wide : Bool) (fault : Fault) → IsRunFault wide fault → status_of fault ≡ 3 → EndsEarly wide fault
+ends_early wide Closed run e = inl refl
+ends_early wide NotEnded run e = inr (inl refl)
+ends_early wide NoRun run e = inr (inr (run, refl))
+ends_early wide NotExpected run e = absurd run
+ends_early wide OutOfMemory run e = absurd (omega (arith, e))
+ends_early wide ReadFailed run e = absurd (omega (arith, e))
+ends_early wide WriteFailed run e = absurd (omega (arith, e))
+ends_early wide _ run e = absurd (omega (arith, e))
 
-fits_early : (fault : Fault) → EndsEarly fault → (answer : Result (Unit {0}) Fault) → RefusesRun fault answer → HasAnswer answer (λ _. Unit {0})
-fits_early fault (inl is) answer refuses = subst (λ f. RefusesRun f answer) is refuses
-fits_early fault (inr is) answer refuses = subst (λ f. RefusesRun f answer) is refuses
+fits_early : (wide : Bool) (fault : Fault) → EndsEarly wide fault → (answer : Result (Unit {0}) Fault) → RefusesRun wide fault answer → HasAnswer answer (λ _. Unit {0})
+fits_early wide fault (inl is) answer refuses = subst (λ f. RefusesRun wide f answer) is refuses
+fits_early wide fault (inr (inl is)) answer refuses = subst (λ f. RefusesRun wide f answer) is refuses
+fits_early wide fault (inr (inr is)) answer refuses = (subst (λ f. RefusesRun wide f answer) is.1 refuses).1
 
-told_early : (fault : Fault) → EndsEarly fault → (P : Fault → Type 0) → P fault → P Closed ⊎ P NotEnded
-told_early fault (inl is) P told = inl (subst P is told)
-told_early fault (inr is) P told = inr (subst P is told)
+told_early : (wide : Bool) (fault : Fault) → EndsEarly wide fault → (P : Fault → Type 0) → P fault → P Closed ⊎ P NotEnded ⊎ ((wide ≡ true) × P NoRun)
+told_early wide fault (inl is) P told = inl (subst P is told)
+told_early wide fault (inr (inl is)) P told = inr (inl (subst P is told))
+told_early wide fault (inr (inr is)) P told = inr (inr (is.0, subst P is.1 told))
 
 -- ---- what comes of it
 
@@ -131,26 +135,26 @@ module _ {S K E : Type 0} (from : source.Ghosts S) (to : sink.Ghosts K) (telling
   ended_by read IsText fault is refused =
       ended_for read IsText fault is (λ two. some_also (from.left input) (λ bytes refuses. is_refusal fault (read bytes) two refuses) refused)
 
-  pub run_ended_by : (IsText : List ℕ → List ℕ → Type 0) (fault : Fault) → status ≡ status_of fault
-      → IfSome (from.left input) (λ bytes. RefusesRun fault (sim_script bytes))
+  pub run_ended_by : (wide : Bool) (IsText : List ℕ → List ℕ → Type 0) (fault : Fault) → status ≡ status_of fault
+      → IfSome (from.left input) (λ bytes. RefusesRun wide fault (sim_script bytes))
       → Tells (telling.taken error) (telling.taken error_after) (telling.failures error) (telling.failures error_after) (complaint fault)
       → (fault ≢ WriteFailed → to.failures output_after ≡ to.failures output)
       → (fault ≡ WriteFailed → IfSome (from.left input) (λ bytes. (text : List ℕ) × IsText bytes text
       × (n : ℕ) × (n < length text) × Appends (to.taken output) (to.taken output_after) (take n text)))
       → Runs from to telling input input_after output output_after error error_after status sim_script IsText
-  run_ended_by IsText fault is refused =
-      ended_for sim_script IsText fault is (λ two. some_also (from.left input) (λ bytes refuses. is_run_refusal fault (sim_script bytes) two refuses) refused)
+  run_ended_by wide IsText fault is refused =
+      ended_for sim_script IsText fault is (λ two. some_also (from.left input) (λ bytes refuses. is_run_refusal wide fault (sim_script bytes) two refuses) refused)
 
-  -- where the status is 3, a cluster closed early or is still shared
-  pub stopped_by : (fault : Fault) → status ≡ status_of fault → IsRunFault fault
-      → IfSome (from.left input) (λ bytes. RefusesRun fault (sim_script bytes))
+  -- where the status is 3, a cluster closed early, is still shared, or has histories that no list gives
+  pub stopped_by : (wide : Bool) (fault : Fault) → status ≡ status_of fault → IsRunFault wide fault
+      → IfSome (from.left input) (λ bytes. RefusesRun wide fault (sim_script bytes))
       → Tells (telling.taken error) (telling.taken error_after) (telling.failures error) (telling.failures error_after) (complaint fault)
       → (fault ≢ WriteFailed → output_after ≡ output)
-      → StopsEarly from to telling input input_after output output_after error error_after status
-  stopped_by fault is run refused told untouched = record {
-    fits = λ three. some_also (from.left input) (λ bytes refuses. fits_early fault (ends_early fault run (sym is ∙ three)) (sim_script bytes) refuses) refused;
+      → StopsEarly from to telling input input_after output output_after error error_after status wide
+  stopped_by wide fault is run refused told untouched = record {
+    fits = λ three. some_also (from.left input) (λ bytes refuses. fits_early wide fault (ends_early wide fault run (sym is ∙ three)) (sim_script bytes) refuses) refused;
     unwritten = λ three. untouched (λ failed. omega (arith, sym is ∙ three, ap status_of failed));
-    told_end = λ three. told_early fault (ends_early fault run (sym is ∙ three))
+    told_end = λ three. told_early wide fault (ends_early wide fault run (sym is ∙ three))
         (λ f. Tells (telling.taken error) (telling.taken error_after) (telling.failures error) (telling.failures error_after) (complaint f)) told;
   }
 

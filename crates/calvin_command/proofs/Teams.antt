@@ -12,10 +12,10 @@ use Rattle.calvin_cluster.specs.declared.cluster.TheConstants.{MOST_WORKERS}
 use Rattle.calvin_run.specs.declared.team.Team.{Team}
 use Rattle.calvin_command.specs.declared.wishes.Wish.{Wish}
 use Rattle.calvin_command.specs.declared.wishes.Wish.TheVariants.{Run}
-use Rattle.calvin_options.specs.Options.{rows_found}
+use Rattle.calvin_options.specs.Options.{has_flag, rows_found}
 use Rattle.calvin_command.specs.Line.{calvin, replicas_option, workers_option, IsTeamOf, IsTeamAsked, IsRun, IsRunLine}
 use Rattle.calvin_command.proofs.Entered.{named_good, other, shape}
-use Rattle.calvin_command.proofs.Numbers.{HasNumber, IsPassed, default_makes, defaults_all_keep, help_default, help_used, number_default, number_found, number_used}
+use Rattle.calvin_command.proofs.Numbers.{HasNumber, IsPassed, default_makes, defaults_all_keep, flag_default, flag_used, help_default, help_used, number_default, number_found, number_used}
 use Rattle.calvin_command.proofs.Rows.{Each, HasGoodDefault, IsUsedWell, level_good}
 use Rattle.calvin_command.proofs.Words.{name_is}
 
@@ -27,7 +27,10 @@ uses = (
   number_used run.rules (codes "replicas") 1 MOST_REPLICAS (codes "3") refl false,
   (
     number_used run.rules (codes "workers") 1 MOST_WORKERS (codes "4") refl false,
-    (help_used run.rules false, tt),
+    (
+      flag_used run.rules (codes "wide") refl false,
+      (help_used run.rules false, tt),
+    ),
   ),
 )
 
@@ -36,7 +39,10 @@ defaults = (
   number_default run.rules (codes "replicas") 1 MOST_REPLICAS (codes "3") refl,
   (
     number_default run.rules (codes "workers") 1 MOST_WORKERS (codes "4") refl,
-    (help_default run.rules, tt),
+    (
+      flag_default run.rules (codes "wide") refl,
+      (help_default run.rules, tt),
+    ),
   ),
 )
 
@@ -79,11 +85,12 @@ team_of rows numbers =
       record {
         replicas = numbers.replicas.0;
         workers = numbers.workers.0;
+        wide = has_flag (codes "wide") rows;
         in_range = range;
         some_worker = omega (arith, numbers.workers.2);
         workers_at_most = numbers.workers.3;
       },
-      record { replicas = numbers.replicas.1; workers = numbers.workers.1 },
+      record { replicas = numbers.replicas.1; workers = numbers.workers.1; wide = refl },
     )
 
 pub team_asked : (words : List Text) → IsRunLine words → (team : Team) × IsTeamAsked words team

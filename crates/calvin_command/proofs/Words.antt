@@ -84,14 +84,14 @@ run_written program = ((refl, λ sim. tt), refl)
 -- the numbers that `calvin run` asks for
 abbrev pub AsksUsualTeam : List (List ℕ) → Type 0
 AsksUsualTeam words = let rows = rows_found (subcommand_of calvin words) in
-    (number_of (codes "replicas") rows ≡ Some 3) × (number_of (codes "workers") rows ≡ Some 4)
+    (number_of (codes "replicas") rows ≡ Some 3) × (number_of (codes "workers") rows ≡ Some 4) × (has_flag (codes "wide") rows ≡ false)
 
 run_usual : (program : List ℕ) → AsksUsualTeam (program ∷ codes "run" ∷ [])
 unfolding clap_on_literals
-run_usual program = (refl, refl)
+run_usual program = (refl, refl, refl)
 
 usual_team : (words : List (List ℕ)) → AsksUsualTeam words → (team : Team) → IsTeamAsked words team → IsUsualTeam team
-usual_team words usual team asked = (some_same _ _ (sym asked.replicas ∙ usual.0), some_same _ _ (sym asked.workers ∙ usual.1))
+usual_team words usual team asked = (some_same _ _ (sym asked.replicas ∙ usual.0), some_same _ _ (sym asked.workers ∙ usual.1), asked.wide ∙ usual.2)
 
 pub is_run_line : (words : List (List ℕ)) → IsPlainRunLine words → IsRunLine words × ((team : Team) → IsTeamAsked words team → IsUsualTeam team)
 is_run_line words plain = (

@@ -3,13 +3,13 @@
 --     Runs from to telling .. status read IsText      what holds of a subcommand that refuses its input or writes such a text for it
 --     RunsEngine from to telling .. status text      what holds of one that writes the text that its input determines
 --     RunsSim from to telling .. status schedule      what holds of one that writes the text of a world to which its input leads under a schedule
---     RunsCluster from to telling .. status replicas      what holds of one that writes the text of a book of so many replicas that a cluster left, which began with what its input says
---     StopsEarly from to telling .. status      what holds of one whose cluster may close early, or be shared still
+--     RunsCluster from to telling .. status replicas wide      what holds of one that writes the text of a book of so many replicas that a cluster left, or that its nodes' histories were assembled to, which began with what its input says
+--     StopsEarly from to telling .. status wide      what holds of one whose cluster may close early, or be shared still, or leave histories that no list gives
 --     Expects from to telling .. status text IsExpected      what holds of one whose input says which answers it expects
 use Rattle.std.specs.Prelude.{◌≡◌, ◌≢◌, Bool, true, false, ℕ, ◌+◌, ◌<◌, List, length, take, Option, Result, Ok, Err, IfSome, IsErr, ◌⊎◌}
 use Rattle.std.specs.Io.KnownBytes.{Appends}
 use Rattle.calvin_types.specs.declared.fault.Fault.{Fault}
-use Rattle.calvin_types.specs.declared.fault.Fault.TheVariants.{OutOfMemory, Closed, NotEnded, ReadFailed, WriteFailed, NotExpected}
+use Rattle.calvin_types.specs.declared.fault.Fault.TheVariants.{OutOfMemory, Closed, NoRun, NotEnded, ReadFailed, WriteFailed, NotExpected}
 use Rattle.calvin_edge.specs.declared.source.Source as source
 use Rattle.calvin_edge.specs.declared.sink.Sink as sink
 use Rattle.calvin_edge.specs.Answering.{HasAnswer, HasText}
@@ -67,15 +67,15 @@ module _ {S K E : Type 0} (from : source.Ghosts S) (to : sink.Ghosts K) (telling
   abbrev pub RunsSim : Schedule → Type 0
   RunsSim schedule = Runs sim_script (λ bytes text. (world : Simulated) × IsSimText schedule bytes world text)
 
-  abbrev pub RunsCluster : ℕ → Type 0
-  RunsCluster replicas = Runs sim_script (λ bytes text. (book : Ran) × IsRunText replicas bytes book text)
+  abbrev pub RunsCluster : ℕ → Bool → Type 0
+  RunsCluster replicas wide = Runs sim_script (λ bytes text. (book : Ran) × IsRunText replicas wide bytes book text)
 
-  -- what holds of a subcommand whose cluster may close early
-  pub record StopsEarly : Type 0 where
-    -- 3 comes only of a script that isn't refused, nothing is written then, and standard error is told which of the two it was
+  -- what holds of a subcommand whose cluster may close early, or have, where it is wide, histories that no list gives
+  pub record StopsEarly (wide : Bool) : Type 0 where
+    -- 3 comes only of a script that isn't refused, nothing is written then, and standard error is told which of these it was
     pub fits : status ≡ 3 → IfSome (from.left input) (λ bytes. HasAnswer (sim_script bytes) (λ _. Unit {0}))
     pub unwritten : status ≡ 3 → output_after ≡ output
-    pub told_end : status ≡ 3 → IsTold (complaint Closed) ⊎ IsTold (complaint NotEnded)
+    pub told_end : status ≡ 3 → IsTold (complaint Closed) ⊎ IsTold (complaint NotEnded) ⊎ ((wide ≡ true) × IsTold (complaint NoRun))
 
   -- what holds of a subcommand whose input says which answers it expects
   pub record Expects (text : List ℕ → Result (List ℕ) Fault) (IsExpected : Bool → List ℕ → Type 0) : Type 0 where

@@ -1,7 +1,7 @@
 -- Which command lines ask for what. They are of this project; what a line is to `clap` is of its specifications.
 --     scout_flag, restarts_flag, repeat_flag      the flag `--scout` of `serial`, and `--restarts` and `--repeat` of `sim`
 --     start_option, steps_option, replicas_option, lose_option      the options of `sim`
---     workers_option      the option `--workers` of `run`, which has `--replicas` too
+--     workers_option, wide_flag      the option `--workers` and the flag `--wide` of `run`, which has `--replicas` too
 --     serial_app, check_app, sim_app, run_app      the subcommands `serial`, `check`, `sim` and `run`
 --     calvin      the program's command line, as clap sees it
 --     Names name words      as clap reads them, the words name the subcommand of this name
@@ -13,6 +13,7 @@
 --     restarts_of rows      whether nodes restart by what clap found
 --     IsScheduleOf rows schedule      what clap found asks for this schedule
 --     IsAsked words schedule      the words ask for this schedule, as clap reads them
+--     wide_asked words      whether the words ask for a lock for each node, as clap reads them
 --     IsTeamOf rows team      what clap found asks for this team
 --     IsTeamAsked words team      the words ask for this team, as clap reads them
 --     IsUsual schedule, IsUsualTeam team      it is the one that is run where nothing else is asked for
@@ -87,12 +88,15 @@ lose_option = optional_number (codes "lose") 1 (MOST_REPLICAS - 1)
 abbrev pub sim_app : App
 sim_app = with_rule (with_rule (with_rule (with_rule (with_rule (with_rule (new_app (codes "sim")) start_option) steps_option) replicas_option) restarts_flag) repeat_flag) lose_option
 
--- `run`, which has two options
+-- `run`, which has two options and a flag
 abbrev pub workers_option : Rule
 workers_option = number_option (codes "workers") 1 MOST_WORKERS (codes "4")
 
+abbrev pub wide_flag : Rule
+wide_flag = flag (codes "wide")
+
 abbrev pub run_app : App
-run_app = with_rule (with_rule (new_app (codes "run")) replicas_option) workers_option
+run_app = with_rule (with_rule (with_rule (new_app (codes "run")) replicas_option) workers_option) wide_flag
 
 -- the program: one of its subcommands is required
 abbrev pub calvin : App
@@ -150,15 +154,19 @@ abbrev pub IsUsual : Schedule → Type 0
 IsUsual schedule = (schedule.start ≡ 1) × (schedule.steps ≡ 1000) × (schedule.replicas ≡ 3) × (schedule.restarts ≡ Never)
     × (schedule.repeats ≡ false) × (schedule.lost ≡ None)
 
+abbrev pub wide_asked : List (List ℕ) → Bool
+wide_asked words = has_flag (codes "wide") (rows_found (subcommand_of calvin words))
+
 pub record IsTeamOf (rows : List Row) (team : Team) : Type 0 where
   pub replicas : number_of (codes "replicas") rows ≡ Some team.replicas
   pub workers : number_of (codes "workers") rows ≡ Some team.workers
+  pub wide : team.wide ≡ has_flag (codes "wide") rows
 
 abbrev pub IsTeamAsked : List (List ℕ) → Team → Type 0
 IsTeamAsked words team = IsTeamOf (rows_found (subcommand_of calvin words)) team
 
 abbrev pub IsUsualTeam : Team → Type 0
-IsUsualTeam team = (team.replicas ≡ 3) × (team.workers ≡ 4)
+IsUsualTeam team = (team.replicas ≡ 3) × (team.workers ≡ 4) × (team.wide ≡ false)
 
 -- help is all that clap has for the words
 abbrev pub IsHelpLine : List (List ℕ) → Type 0

@@ -6,7 +6,7 @@ ghost use Rattle.calvin_sim_events.specs.declared.schedule.Schedule.{Schedule};
 ghost use Rattle.calvin_run.specs.declared.team.Team.{Team};
 ghost use Rattle.calvin_ending.specs.Telling.{Tells};
 ghost use Rattle.calvin_command.specs.Ends.{LeavesDevices, RunsEngine, RunsSim, RunsCluster, Expects, StopsEarly};
-ghost use Rattle.calvin_command.specs.Line.{IsTaken, IsSerialLine, IsCheckLine, IsSimLine, IsRunLine, IsHelpLine, IsBadLine, HasHelpWord, IsPlainSerialLine, IsPlainCheckLine, IsPlainSimLine, IsPlainRunLine, IsScoutLine, sets_asked, IsAsked, IsTeamAsked, IsUsual, IsUsualTeam};
+ghost use Rattle.calvin_command.specs.Line.{IsTaken, IsSerialLine, IsCheckLine, IsSimLine, IsRunLine, IsHelpLine, IsBadLine, HasHelpWord, IsPlainSerialLine, IsPlainCheckLine, IsPlainSimLine, IsPlainRunLine, IsScoutLine, sets_asked, wide_asked, IsAsked, IsTeamAsked, IsUsual, IsUsualTeam};
 ghost use Rattle.calvin_ending.specs.Statuses.{IsStatus};
 
 use crate::wishes::{Refusal, Wish, parse};
@@ -21,6 +21,7 @@ use calvin_sim_events::Schedule;
 use calvin_types::Fault;
 use std::alloc::Global;
 use std::convert::AsStr;
+use std::mem;
 use std::sync::Wait;
 use std::thread::Threads;
 
@@ -63,7 +64,8 @@ fn run_check<S: Source, K: Sink, E: Sink>(
     end_with(fault, error)
 }
 
-/// Runs the engine `sim`, tells a fault, and answers the status.
+/// Runs the engine `sim`, tells a fault, and answers the status. The world stays in memory: who runs a line ends thereafter, and
+/// gives its pieces back all at once.
 #[tactic(auto, using(crate::proofs::Endings::sim_status))]
 fn run_sim<S: Source, K: Sink, E: Sink>(
     alloc: Global,
@@ -77,13 +79,17 @@ fn run_sim<S: Source, K: Sink, E: Sink>(
     ensures sim { RunsSim S.Source K.Sink E.Sink input.old input.new output.old output.new error.old error.new result schedule.now }
     ensures expected { result ≢ 3 }
 {
-    if let Err(fault) = sim(alloc, schedule, input, output) {
-        return end_with(fault, error);
+    match sim(alloc, schedule, input, output) {
+        Ok(world) => {
+            mem::forget(world);
+            0
+        }
+        Err(fault) => end_with(fault, error),
     }
-    0
 }
 
-/// Runs the engine `run`, whose workers no gate holds, tells a fault, and answers the status.
+/// Runs the engine `run`, whose workers no gate holds, tells a fault, and answers the status. The book stays in memory, as the world
+/// of `sim` does.
 #[tactic(auto, using(crate::proofs::Endings::run_status))]
 fn run_cluster<S, K, E, R>(
     rt: R,
@@ -100,18 +106,22 @@ where
     R: Threads + Wait + Copy + Send + Sync + 'static,
     ensures statuses { IsStatus result }
     ensures devices { LeavesDevices S.Source K.Sink E.Sink input.old input.new output.old output.new error.old error.new result }
-    ensures run { RunsCluster S.Source K.Sink E.Sink input.old input.new output.old output.new error.old error.new result team.now.replicas }
-    ensures stops { StopsEarly S.Source K.Sink E.Sink input.old input.new output.old output.new error.old error.new result }
+    ensures run { RunsCluster S.Source K.Sink E.Sink input.old input.new output.old output.new error.old error.new result team.now.replicas team.now.wide }
+    ensures stops { StopsEarly S.Source K.Sink E.Sink input.old input.new output.old output.new error.old error.new result team.now.wide }
 {
-    if let Err(fault) = run(rt, alloc, team, Open, input, output) {
-        return end_with(fault, error);
+    match run(rt, alloc, team, Open, input, output) {
+        Ok(book) => {
+            mem::forget(book);
+            0
+        }
+        Err(fault) => end_with(fault, error),
     }
-    0
 }
 
 /// Runs a command line, and answers its status: 0 where all went well, 2 where the line or the script is refused, 3 where the
-/// answers aren't those that a script of `check` expects, or the cluster of `run` closed early or is still shared, 4 for want of memory,
-/// 5 where a device failed. The line on standard error may fail to be written; the status stays. Threads are started for `run` alone.
+/// answers aren't those that a script of `check` expects, or the cluster of `run` closed early or is still shared, or its nodes' histories
+/// have no list, 4 for want of memory, 5 where a device failed. The line on standard error may fail to be written; the status stays.
+/// Threads are started for `run` alone.
 #[tactic(auto, using(crate::proofs::Named::is_taken_line, crate::proofs::Words::is_plain_line, crate::proofs::Words::is_scout_line, crate::proofs::Helped::is_covered))]
 pub fn command<W, S, K, E, R>(
     rt: R,
@@ -168,12 +178,13 @@ where
     // `sim` has a schedule that is asked for, and writes the text of a world to which the script led under it, or refuses it.
     ensures sim { IsSimLine (map W.text words.now) → (schedule : Schedule) × IsAsked (map W.text words.now) schedule
         × RunsSim S.Source K.Sink E.Sink input.old input.new output.old output.new error.old error.new result schedule }
-    // `run` has a team that is asked for, and writes the text of a book that a cluster of it left, or refuses the script; 3 says that
-    // the cluster closed early or is still shared.
+    // `run` has a team that is asked for, and writes the text of a book that a cluster of it left, or, where it is wide, of one that its
+    // nodes' histories were assembled to, or refuses the script; 3 says that the cluster closed early or is still shared, or, where it
+    // is wide, that no list gives the histories.
     ensures run { IsRunLine (map W.text words.now) → (team : Team) × IsTeamAsked (map W.text words.now) team
-        × RunsCluster S.Source K.Sink E.Sink input.old input.new output.old output.new error.old error.new result team.replicas }
+        × RunsCluster S.Source K.Sink E.Sink input.old input.new output.old output.new error.old error.new result team.replicas team.wide }
     ensures stops { IsRunLine (map W.text words.now)
-        → StopsEarly S.Source K.Sink E.Sink input.old input.new output.old output.new error.old error.new result }
+        → StopsEarly S.Source K.Sink E.Sink input.old input.new output.old output.new error.old error.new result (wide_asked (map W.text words.now)) }
 {
     match parse(alloc, words) {
         Ok(Wish::Serial(sets)) => run_serial(alloc, sets, input, output, error),

@@ -77,7 +77,8 @@ The script comes on standard input, as `calvin serial --help` shows it. It is ru
 a running store of as many partitions as it has: each batch is submitted at its
 group's node of replica 0 and closed, and then threads bring all nodes to the end of
 the last epoch: some deliver packets, and --workers others run requests. Which thread
-comes first is the machine's choice.
+comes first is the machine's choice. With --wide each node has a lock of its own, and
+the answers are those of one list of events that is made of what each node did.
 
 Each request of the epochs that all nodes finished is answered by a line `epoch.n
 client:number answer`, in the merged order of all groups; the last line is
@@ -93,7 +94,8 @@ Statuses:
   0  all went well
   2  the command line or the script is refused, and nothing is printed
   3  the answers aren't the ones that the script of `check` expects; or the store of
-     `run` closed before its last epoch, or is still in use, and nothing is printed
+     `run` closed before its last epoch, or is still in use, or `run --wide` found no
+     list of events of what its nodes did, and nothing is printed
   4  memory ran out, and nothing is printed
   5  reading or writing failed
 At 2 to 5 standard error has one line that says why.

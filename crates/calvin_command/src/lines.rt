@@ -2,7 +2,7 @@
 ghost use Rattle.std.specs.Prelude.{◌≡◌, codes, false, IfOk};
 ghost use Rattle.clap.specs.declared.builder.command.Command.TheViews.{out-Command as fields_of};
 ghost use Rattle.clap.specs.Words.{app_of, rule_of};
-ghost use Rattle.calvin_command.specs.Line.{scout_flag, restarts_flag, repeat_flag, start_option, steps_option, replicas_option, lose_option, workers_option, serial_app, check_app, sim_app, run_app, calvin};
+ghost use Rattle.calvin_command.specs.Line.{scout_flag, restarts_flag, repeat_flag, start_option, steps_option, replicas_option, lose_option, workers_option, wide_flag, serial_app, check_app, sim_app, run_app, calvin};
 
 use crate::help::{EVENTS_HELP, RUN_HELP, SCRIPT_HELP, SIM_HELP, STATUS_HELP};
 use calvin_cluster::MOST_WORKERS;
@@ -88,6 +88,16 @@ fn workers_option<'a>(alloc: Global) -> Arg<'a>
     )
 }
 
+/// The flag `--wide` of `run`.
+fn wide_flag<'a>(alloc: Global) -> Arg<'a>
+    ensures rule { rule_of result ≡ wide_flag }
+    ensures local { result.global ≡ false }
+{
+    flag(alloc, "wide").help(
+        "Each node has a lock of its own, and one list of events is made of what each did",
+    )
+}
+
 /// The subcommand `serial`.
 fn serial_line<'a>(alloc: Global) -> Result<Command<'a>, AllocError>
     ensures app { IfOk result (λ c. app_of c ≡ serial_app) }
@@ -134,7 +144,8 @@ fn run_line<'a>(alloc: Global) -> Result<Command<'a>, AllocError>
         .about("Runs a script in a store of threads and prints what each request was answered")
         .after_help(RUN_HELP)
         .arg(replicas_option(alloc))?
-        .arg(workers_option(alloc))
+        .arg(workers_option(alloc))?
+        .arg(wide_flag(alloc))
 }
 
 /// The program's command line.

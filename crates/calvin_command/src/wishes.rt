@@ -78,7 +78,7 @@ fn team_of(run: &ArgMatches<'_>) -> Option<Team>
 {
     let replicas = u8::try_from(number_of(run, "replicas")?).ok()?;
     let workers = usize::try_from(number_of(run, "workers")?).ok()?;
-    Team::new(replicas, workers)
+    Team::new(replicas, workers, has_flag(run, "wide"))
 }
 
 /// What the matches of a line ask for.

@@ -211,6 +211,7 @@ fn help_is_shown(rt: HostRuntime) {
         "[default: 3]",
         "--workers <N>",
         "[default: 4]",
+        "--wide ",
         "4,096",
     ];
     helps(&rt, alloc, &["calvin", "run", "--help"], &parts);

@@ -11,6 +11,8 @@ fn prints(rt: &impl Runtime, alloc: Global, script: &str, text: &str) {
     for workers in ["1", "4"] {
         let words = ["calvin", "run", "--workers", workers];
         runs(rt, alloc, &words, script, 0, text, "");
+        let words = ["calvin", "run", "--wide", "--workers", workers];
+        runs(rt, alloc, &words, script, 0, text, "");
     }
 }
 
@@ -64,7 +66,9 @@ fn repeated_payment(rt: HostRuntime) {
 
 #[test]
 fn lines_at_the_bounds(rt: HostRuntime) {
-    let lines: [&[&str]; 4] = [
+    let lines: [&[&str]; 6] = [
+        &["calvin", "run", "--wide"],
+        &["calvin", "run", "--replicas", "1", "--wide", "--workers=16"],
         &["calvin", "run", "--replicas", "1", "--workers", "16"],
         &["calvin", "run", "--workers=1", "--replicas=7"],
         &["calvin", "run", "--replicas", "2"],
@@ -77,7 +81,10 @@ fn lines_at_the_bounds(rt: HostRuntime) {
 
 #[test]
 fn bad_lines(rt: HostRuntime) {
-    let lines: [&[&str]; 14] = [
+    let lines: [&[&str]; 17] = [
+        &["calvin", "run", "--wide", "--wide"],
+        &["calvin", "run", "--wide=true"],
+        &["calvin", "sim", "--wide"],
         &["calvin", "run", "--workers", "0"],
         &["calvin", "run", "--workers", "17"],
         &["calvin", "run", "--replicas", "0"],

@@ -1,3 +1,4 @@
 mod Growing
 mod Submitted
 mod Ends
+mod AtNodes

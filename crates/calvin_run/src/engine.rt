@@ -2,7 +2,6 @@
 ghost use Rattle.std.specs.Prelude.{◌≡◌, ◌≢◌, ◌+◌, ◌<◌, ℕ, List, length, take, IfOk, IfErr, IfSome, IsErrOf, Ok};
 ghost use Rattle.std.specs.Result.{result_err};
 ghost use Rattle.std.specs.Io.KnownBytes.{Appends};
-ghost use mathlib.Core.List.{IsPrefix};
 ghost use Rattle.calvin_edge.specs.Devices.{LeavesAsTold};
 ghost use Rattle.calvin_order.specs.Configs.{store_config};
 ghost use Rattle.calvin_script.specs.Applications.{app_script_from};
@@ -12,7 +11,7 @@ ghost use Rattle.calvin_book.specs.Books.{world_after};
 ghost use Rattle.calvin_sim.specs.Engine.{fitting, fitting_in, sim_script};
 ghost use Rattle.calvin_sim.specs.Simulations.{submissions, AllTaken};
 ghost use Rattle.calvin_sim.specs.Telling.{IsTold};
-ghost use Rattle.calvin_run.specs.Engine.{IsRunText, Runs, IsRunFault, RefusesRun};
+ghost use Rattle.calvin_run.specs.Engine.{Begins, IsRunText, Runs, IsRunFault, RefusesRun};
 
 use crate::team::Team;
 use crate::telling::run_and_tell;
@@ -31,7 +30,8 @@ use std::alloc::Global;
 use std::sync::Wait;
 use std::thread::Threads;
 
-/// The book that a cluster left in which a script was run, of the application that the script names.
+/// The book that a cluster left in which a script was run, or that its nodes' histories were assembled to, of the application that the
+/// script names.
 #[derive(Drop)]
 pub enum Ran {
     Kv(StoreBook<Kv>),
@@ -64,9 +64,9 @@ where
     R: Threads + Wait + Copy + Send + Sync + 'static,
     requires taken { AllTaken (contents script.now) }
     ensures config { IfOk result (λ r. r.0.config ≡ store_config script.now.partitions team.now.replicas 0 script.now.woven_from) }
-    ensures begins { IfOk result (λ r. IsPrefix (submissions (contents script.now)) r.0.events) }
+    ensures begins { IfOk result (λ r. Begins A.meaning r.0.config (submissions (contents script.now)) r.0.events team.now.wide) }
     ensures told { IfOk result (λ r. IsTold A.meaning A.Reply.printed (world_after A.meaning r.0.config r.0.events) r.1.items) }
-    ensures fits { Runs result (fitting (contents script.now)) }
+    ensures fits { Runs team.now.wide result (fitting (contents script.now)) }
 {
     if !fits(script) {
         return Err(Fault::BadScript);
@@ -85,8 +85,8 @@ fn run_bytes<G, R>(
 where
     G: Gate + 'static,
     R: Threads + Wait + Copy + Send + Sync + 'static,
-    ensures told { IfOk result (λ told. IsRunText team.now.replicas bytes.items told.book told.text.items) }
-    ensures fits { Runs result (and_then (app_script_from bytes.items) fitting_in) }
+    ensures told { IfOk result (λ told. IsRunText team.now.replicas team.now.wide bytes.items told.book told.text.items) }
+    ensures fits { Runs team.now.wide result (and_then (app_script_from bytes.items) fitting_in) }
 {
     match read_script(alloc, bytes)? {
         AppScript::Kv(script) => {
@@ -115,8 +115,10 @@ where
 
 /// Reads a script to the end of the source, submits and closes its batches in a book, lets a cluster of so many workers bring all nodes
 /// of so many replicas to the last epoch, and writes a line for each request of the epochs at whose end every node stands, and then the
-/// last of them. A worker calls the gate before and after it runs a request. The book that the cluster leaves is given back. The whole
-/// text is built before any of it is written. Refused as the engine `sim` is, and with `Closed` or `NotEnded` where the cluster is.
+/// last of them. A worker calls the gate before and after it runs a request. The book that the cluster leaves is given back; where the
+/// team is wide, the one of the list that the histories of the cluster's nodes are assembled to. The whole text is built before any of
+/// it is written. Refused as the engine `sim` is, with `Closed` or `NotEnded` where the cluster is, and with `NoRun` where the team is
+/// wide and no list gives the histories.
 pub fn run<S, K, G, R>(
     rt: R,
     alloc: Global,
@@ -130,16 +132,17 @@ where
     K: Sink,
     G: Gate + 'static,
     R: Threads + Wait + Copy + Send + Sync + 'static,
-    // What is written is the text of the book that is given back, which begins with the submissions of the script that was read.
+    // What is written is the text of the book that is given back, which begins with the submissions of the script that was read, at
+    // each node where the team is wide.
     ensures ok { IfOk result (λ book. IfSome (S.left source.old) (λ bytes. (text : List ℕ)
-        × IsRunText team.now.replicas bytes book text × Appends (K.taken sink.old) (K.taken sink.new) text)) }
+        × IsRunText team.now.replicas team.now.wide bytes book text × Appends (K.taken sink.old) (K.taken sink.new) text)) }
     // Which fault it is: no other one comes, and a script is refused with its own.
-    ensures only { IfErr result IsRunFault }
-    ensures refused { IfErr result (λ fault. IfSome (S.left source.old) (λ bytes. RefusesRun fault (sim_script bytes))) }
+    ensures only { IfErr result (IsRunFault team.now.wide) }
+    ensures refused { IfErr result (λ fault. IfSome (S.left source.old) (λ bytes. RefusesRun team.now.wide fault (sim_script bytes))) }
     // Nothing is written, but where writing fails.
     ensures untouched { IfErr result (λ fault. fault ≢ Fault.WriteFailed → sink.new ≡ sink.old) }
     ensures beginning { IsErrOf result Fault.WriteFailed → IfSome (S.left source.old) (λ bytes. (book : Ran) × (text : List ℕ)
-        × IsRunText team.now.replicas bytes book text × (n : ℕ) × (n < length text) × Appends (K.taken sink.old) (K.taken sink.new) (take n text)) }
+        × IsRunText team.now.replicas team.now.wide bytes book text × (n : ℕ) × (n < length text) × Appends (K.taken sink.old) (K.taken sink.new) (take n text)) }
     // How far it read, and which device failed.
     ensures devices { LeavesAsTold S.Source K.Sink source.old source.new sink.old sink.new (result_err result) }
 {

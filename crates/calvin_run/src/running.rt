@@ -1,5 +1,5 @@
 //! A cluster brings a book to its last epoch.
-ghost use Rattle.std.specs.Prelude.{◌≡◌, ◌<◌, ◌≤◌, IfOk, IfErr};
+ghost use Rattle.std.specs.Prelude.{◌≡◌, ◌<◌, ◌≤◌, false, IfOk, IfErr};
 ghost use mathlib.Core.List.{IsPrefix};
 ghost use Rattle.calvin_cluster.specs.declared.cluster.TheConstants.{MOST_WORKERS};
 ghost use Rattle.calvin_run.specs.Engine.{IsClusterFault};
@@ -41,7 +41,7 @@ where
     requires workers_at_most { workers ≤ MOST_WORKERS }
     ensures config { IfOk result (λ b. b.config ≡ book.config) }
     ensures begins { IfOk result (λ b. IsPrefix book.events b.events) }
-    ensures only { IfErr result IsClusterFault }
+    ensures only { IfErr result (IsClusterFault false) }
 {
     let opened = Opened::new();
     bring_on_named::<A, L, S, G, Brand, R>(rt, alloc, app, opened, book, epochs, workers, gate)
@@ -74,7 +74,7 @@ where
     requires workers_at_most { workers ≤ MOST_WORKERS }
     ensures config { IfOk result (λ b. b.config ≡ book.config) }
     ensures begins { IfOk result (λ b. IsPrefix book.events b.events) }
-    ensures only { IfErr result IsClusterFault }
+    ensures only { IfErr result (IsClusterFault false) }
 {
     let cluster = match Cluster::<A, L, S, G, J>::open(
         rt, alloc, app, opened, book, gate, workers,
@@ -102,7 +102,7 @@ where
     G: Gate,
     J: Founding,
     R: Wait,
-    ensures only { IfErr result IsClusterFault }
+    ensures only { IfErr result (IsClusterFault false) }
 {
     if epochs == 0 {
         return Ok(());

@@ -19,9 +19,13 @@ mod scarce_serial;
 #[cfg(test)]
 mod scarce_sim;
 #[cfg(test)]
+mod scarce_wide;
+#[cfg(test)]
 mod scripts;
 #[cfg(test)]
 mod texts;
+#[cfg(test)]
+mod wide;
 #[cfg(test)]
 mod worked;
 

@@ -31,7 +31,7 @@ fn refused_scripts(rt: HostRuntime) -> Result<(), Fail> {
     for (script, fault) in scripts {
         same(
             &rt,
-            fault_of(outcome_of(rt, rt.alloc(), script, 2)),
+            fault_of(outcome_of(rt, rt.alloc(), script, &team(&rt, 2))),
             Some(fault),
         );
         let mut input = MemorySource::new(script.as_bytes());
@@ -95,11 +95,16 @@ fn script_of(alloc: Global, epochs: usize, each: usize) -> Result<String, Fault>
 fn as_many_as_a_sequencer_takes(rt: HostRuntime) -> Result<(), Fail> {
     let alloc = rt.alloc();
     let most = script_of(alloc, 16, 256)?;
-    same(&rt, fault_of(outcome_of(rt, alloc, most.as_str(), 4)), None);
+    let four = team(&rt, 4);
+    same(
+        &rt,
+        fault_of(outcome_of(rt, alloc, most.as_str(), &four)),
+        None,
+    );
     let more = script_of(alloc, 17, 241)?;
     same(
         &rt,
-        fault_of(outcome_of(rt, alloc, more.as_str(), 4)),
+        fault_of(outcome_of(rt, alloc, more.as_str(), &four)),
         Some(Fault::BadScript),
     );
     Ok(())
@@ -107,11 +112,13 @@ fn as_many_as_a_sequencer_takes(rt: HostRuntime) -> Result<(), Fail> {
 
 #[test]
 fn teams(rt: HostRuntime) -> Result<(), Fail> {
-    same(&rt, Team::new(0, 1).is_some(), false);
-    same(&rt, Team::new(8, 1).is_some(), false);
-    same(&rt, Team::new(1, 0).is_some(), false);
-    same(&rt, Team::new(1, MOST_WORKERS + 1).is_some(), false);
-    same(&rt, Team::new(7, MOST_WORKERS).is_some(), true);
-    same(&rt, Team::new(REPLICAS, 1).is_some(), true);
+    for wide in [false, true] {
+        same(&rt, Team::new(0, 1, wide).is_some(), false);
+        same(&rt, Team::new(8, 1, wide).is_some(), false);
+        same(&rt, Team::new(1, 0, wide).is_some(), false);
+        same(&rt, Team::new(1, MOST_WORKERS + 1, wide).is_some(), false);
+        same(&rt, Team::new(7, MOST_WORKERS, wide).is_some(), true);
+        same(&rt, Team::new(REPLICAS, 1, wide).is_some(), true);
+    }
     Ok(())
 }

@@ -16,11 +16,21 @@ pub(crate) fn same<T: PartialEq + Debug + Drop>(rt: &impl Abort, found: T, wante
     assert_eq!(rt; found, wanted);
 }
 
-pub(crate) fn team(rt: &impl Abort, workers: usize) -> Team {
-    let Some(team) = Team::new(REPLICAS, workers) else {
+/// So many workers on three replicas, with one lock or with one for each node.
+fn team_of(rt: &impl Abort, workers: usize, wide: bool) -> Team {
+    let Some(team) = Team::new(REPLICAS, workers, wide) else {
         panic!(rt; "no team");
     };
     team
+}
+
+pub(crate) fn team(rt: &impl Abort, workers: usize) -> Team {
+    team_of(rt, workers, false)
+}
+
+/// Where each node has a lock of its own.
+pub(crate) fn wide_team(rt: &impl Abort, workers: usize) -> Team {
+    team_of(rt, workers, true)
 }
 
 /// What came of a script: its book, its text, and how many requests were run.
@@ -31,12 +41,12 @@ pub(crate) struct Outcome {
     pub begun: u64,
 }
 
-/// Runs a script with so many workers, which the gate counts.
+/// Runs a script by a team. The gate counts what its workers run.
 pub(crate) fn outcome_of<R: Threads + Wait + Abort + Copy + Send + Sync + 'static>(
     rt: R,
     alloc: Global,
     script: &str,
-    workers: usize,
+    team: &Team,
 ) -> Result<Outcome, Fault> {
     let counts = Counts::new(alloc)?;
     let gate = Counting {
@@ -44,14 +54,7 @@ pub(crate) fn outcome_of<R: Threads + Wait + Abort + Copy + Send + Sync + 'stati
     };
     let mut input = MemorySource::new(script.as_bytes());
     let mut output = MemorySink::new(alloc);
-    let book = run(
-        rt,
-        alloc,
-        &team(&rt, workers),
-        gate,
-        &mut input,
-        &mut output,
-    )?;
+    let book = run(rt, alloc, team, gate, &mut input, &mut output)?;
     let MemorySink { taken, .. } = output;
     same(&rt, counts.done(), counts.begun());
     Ok(Outcome {
@@ -66,10 +69,10 @@ pub(crate) fn tells<R: Threads + Wait + Abort + Copy + Send + Sync + 'static>(
     rt: R,
     alloc: Global,
     script: &str,
-    workers: usize,
+    team: &Team,
     text: &str,
 ) -> Result<Outcome, Fault> {
-    let outcome = outcome_of(rt, alloc, script, workers)?;
+    let outcome = outcome_of(rt, alloc, script, team)?;
     let Ok(found) = std::str::from_utf8(outcome.text.as_slice()) else {
         panic!(rt; "no text");
     };

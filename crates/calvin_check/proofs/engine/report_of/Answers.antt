@@ -14,14 +14,6 @@ pub drop-world-inside-requires-in_err-run_events-2-room-T-Destruct :
     goal.drop-world-inside-requires-in_err-run_events-2-room-T-Destruct
 drop-world-inside-requires-in_err-run_events-2-room-T-Destruct g c κs within = packet_of (lone g.row.A-Args.mir) (lone g.row.A-Row.mir) (lone g.row.A-Reply.mir) g.met.A.App.work_fits
 
-pub drop-world-inside-requires-in_err-is_expected-3-room-T-Destruct :
-    goal.drop-world-inside-requires-in_err-is_expected-3-room-T-Destruct
-drop-world-inside-requires-in_err-is_expected-3-room-T-Destruct g c κs within = packet_of (lone g.row.A-Args.mir) (lone g.row.A-Row.mir) (lone g.row.A-Reply.mir) g.met.A.App.work_fits
-
-pub drop-world-inside-requires-4-room-T-Destruct :
-    goal.drop-world-inside-requires-4-room-T-Destruct
-drop-world-inside-requires-4-room-T-Destruct g c κs within = packet_of (lone g.row.A-Args.mir) (lone g.row.A-Row.mir) (lone g.row.A-Reply.mir) g.met.A.App.work_fits
-
 pub returns-clause-told : goal.returns-clause-told
 returns-clause-told g c =
     let led = c.in_ok-run_events.ensures.led in
@@ -33,7 +25,7 @@ returns-clause-told g c =
     let events = map event_of script.events.items in
     let leads = subst (λ es. SettledLeads g.A.App.meaning world (map event_of es) led.0 after) c.deref.ensures.value led.1 in (
       told_text g.A.App.meaning show config world c.in_ok-world.ensures.ok events led.0 after leads led.2
-          c.new-text.result.items c.run_events.new.text.items c.tell_world.new.text.items c.new-text.ensures.items led.3 c.in_ok-is_expected.ensures.told,
+          c.new-text.result.items c.run_events.new.text.items c.tell_world-told.new.text.items c.new-text.ensures.items led.3 c.in_ok-is_expected.ensures.told,
       c.in_ok-is_expected.ensures.expected
           ∙ ap (are_expected (option_map (λ v. map string_bytes v.items) script.expect)) (told_lines g.A.App.meaning show config world c.in_ok-world.ensures.ok events led.0 after leads led.2),
     )

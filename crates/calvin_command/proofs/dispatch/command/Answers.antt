@@ -1,6 +1,7 @@
-use Rattle.std.proofs.Common.{arith, map, subst, Ok}
+use Rattle.std.proofs.Common.{arith, map, subst, Bool, Ok}
 use Rattle.calvin_command.specs.declared.wishes.Wish.{Wish}
-use Rattle.calvin_command.specs.Line.{IsRun, IsSim}
+use Rattle.calvin_command.specs.Ends.{StopsEarly}
+use Rattle.calvin_command.specs.Line.{IsRun, IsSim, IsTeamAsked}
 use Rattle.calvin_command.proofs.Helped.{is_covered}
 use Rattle.calvin_command.proofs.Named.{is_taken_line}
 use Rattle.calvin_command.proofs.Schedules.{asked_of}
@@ -56,6 +57,12 @@ pub returns-in-Ok-Run-clause-run : goal.returns-in-Ok-Run-clause-run
 returns-in-Ok-Run-clause-run g c line =
     let words = map g.W.AsStr.text c.args.words.now in
     (c.in-Ok-Run.team, subst (λ (w : Wish). IsRun words (Ok w)) c.in-Ok-Run.field-0-is (c.in-Ok-Run.ensures.run line), c.run_cluster.ensures.run)
+
+pub returns-in-Ok-Run-clause-stops : goal.returns-in-Ok-Run-clause-stops
+returns-in-Ok-Run-clause-stops g c line =
+    let words = map g.W.AsStr.text c.args.words.now in
+    let asked : IsTeamAsked words c.in-Ok-Run.team = subst (λ (w : Wish). IsRun words (Ok w)) c.in-Ok-Run.field-0-is (c.in-Ok-Run.ensures.run line) in
+    subst (λ (wide : Bool). StopsEarly g.S.Source g.K.Sink g.E.Sink c.args.input.now c.run_cluster.new.input c.args.output.now c.run_cluster.new.output c.args.error.now c.run_cluster.new.error c.run_cluster.result wide) asked.wide c.run_cluster.ensures.stops
 
 pub returns-in-Ok-Help-clause-taken : goal.returns-in-Ok-Help-clause-taken
 returns-in-Ok-Help-clause-taken g c = is_taken_line (map g.W.AsStr.text c.args.words.now)

@@ -4,22 +4,22 @@ use Rattle.calvin_command.proofs.dispatch.run_cluster.Goals as goal
 
 pub returns-in-Err-clause-run : goal.returns-in-Err-clause-run
 returns-in-Err-clause-run g c =
-    run_ended_by g.S.Source g.K.Sink g.E.Sink _ _ _ _ _ _ _ _ c.in-Err.fault c.end_with.ensures.status c.in-Err.ensures.refused c.end_with.ensures.told
+    run_ended_by g.S.Source g.K.Sink g.E.Sink _ _ _ _ _ _ _ c.args.team.now.wide _ c.in-Err.fault c.end_with.ensures.status c.in-Err.ensures.refused c.end_with.ensures.told
     (λ other. c.in-Err.ensures.devices.wrote_well (λ e. other (cc)))
     (λ failed. some_also (g.S.Source.left c.args.input.now) (λ bytes told. (told.1, (told.0, told.2), told.3, told.4, told.5))
     (c.in-Err.ensures.beginning (ap Err failed)))
 
 pub returns-in-Err-clause-stops : goal.returns-in-Err-clause-stops
 returns-in-Err-clause-stops g c =
-    stopped_by g.S.Source g.K.Sink g.E.Sink _ _ _ _ _ _ _ c.in-Err.fault c.end_with.ensures.status c.in-Err.ensures.only c.in-Err.ensures.refused
+    stopped_by g.S.Source g.K.Sink g.E.Sink _ _ _ _ _ _ _ c.args.team.now.wide c.in-Err.fault c.end_with.ensures.status c.in-Err.ensures.only c.in-Err.ensures.refused
     c.end_with.ensures.told c.in-Err.ensures.untouched
 
-pub returns-clause-run : goal.returns-clause-run
-returns-clause-run g c =
+pub returns-in-Ok-clause-run : goal.returns-in-Ok-clause-run
+returns-in-Ok-clause-run g c =
     let left = g.S.Source.left c.args.input.now in
     record {
-      written = λ zero. some_also left (λ bytes told. (told.0, (c.in_default.field-0, told.1), told.2)) c.in_default.ensures.ok;
+      written = λ zero. some_also left (λ bytes told. (told.0, (c.in-Ok.book, told.1), told.2)) c.in-Ok.ensures.ok;
       refused = λ two. absurd (omega (arith, two));
       told_refusal = λ two. absurd (omega (arith, two));
-      beginning = λ failed. absurd (omega (arith, failed, c.in_default.ensures.devices.wrote_well (λ e. cc)));
+      beginning = λ failed. absurd (omega (arith, failed, c.in-Ok.ensures.devices.wrote_well (λ e. cc)));
     }

@@ -9,12 +9,12 @@ returns-in-Err-clause-sim g c =
     (λ failed. some_also (g.S.Source.left c.args.input.now) (λ bytes told. (told.1, (told.0, told.2), told.3, told.4, told.5))
     (c.in-Err.ensures.beginning (ap Err failed)))
 
-pub returns-clause-sim : goal.returns-clause-sim
-returns-clause-sim g c =
+pub returns-in-Ok-clause-sim : goal.returns-in-Ok-clause-sim
+returns-in-Ok-clause-sim g c =
     let left = g.S.Source.left c.args.input.now in
     record {
-      written = λ zero. some_also left (λ bytes told. (told.0, (c.in_default.field-0, told.1), told.2)) c.in_default.ensures.ok;
+      written = λ zero. some_also left (λ bytes told. (told.0, (c.in-Ok.world, told.1), told.2)) c.in-Ok.ensures.ok;
       refused = λ two. absurd (omega (arith, two));
       told_refusal = λ two. absurd (omega (arith, two));
-      beginning = λ failed. absurd (omega (arith, failed, c.in_default.ensures.devices.wrote_well (λ e. cc)));
+      beginning = λ failed. absurd (omega (arith, failed, c.in-Ok.ensures.devices.wrote_well (λ e. cc)));
     }

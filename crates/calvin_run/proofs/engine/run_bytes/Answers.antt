@@ -17,7 +17,7 @@ returns-in_ok-book-in-Kv-clause-told g c =
     let bytes = c.args.bytes.items in
     let script = c.in-Kv.script in
     let ran = c.in_ok-book-in-Kv.ensures in
-    is_ran kv kv_grammar kv_text c.args.team.now.replicas bytes (contents script) (kv_is bytes c.in_ok-script.field-0 script c.in_ok-script.ensures c.in-Kv.is)
+    is_ran kv kv_grammar kv_text c.args.team.now.replicas c.args.team.now.wide bytes (contents script) (kv_is bytes c.in_ok-script.field-0 script c.in_ok-script.ensures c.in-Kv.is)
     c.in_ok-book-in-Kv.book c.in_ok-book-in-Kv.text.items ran.config ran.begins ran.told
 
 pub run_script-requires-in-Stock-clause-taken : goal.run_script-requires-in-Stock-clause-taken
@@ -28,7 +28,7 @@ returns-in_ok-book-in-Stock-clause-told g c =
     let bytes = c.args.bytes.items in
     let script = c.in-Stock.script in
     let ran = c.in_ok-book-in-Stock.ensures in
-    is_ran stock stock_grammar stock_text c.args.team.now.replicas bytes (contents script) (stock_is bytes c.in_ok-script.field-0 script c.in_ok-script.ensures c.in-Stock.is)
+    is_ran stock stock_grammar stock_text c.args.team.now.replicas c.args.team.now.wide bytes (contents script) (stock_is bytes c.in_ok-script.field-0 script c.in_ok-script.ensures c.in-Stock.is)
     c.in_ok-book-in-Stock.book c.in_ok-book-in-Stock.text.items ran.config ran.begins ran.told
 
 pub run_script-requires-in-Once-clause-taken : goal.run_script-requires-in-Once-clause-taken
@@ -39,5 +39,5 @@ returns-in_ok-book-in-Once-clause-told g c =
     let bytes = c.args.bytes.items in
     let script = c.in-Once.script in
     let ran = c.in_ok-book-in-Once.ensures in
-    is_ran once_stock once_grammar stock_text c.args.team.now.replicas bytes (contents script) (once_is bytes c.in_ok-script.field-0 script c.in_ok-script.ensures c.in-Once.is)
+    is_ran once_stock once_grammar stock_text c.args.team.now.replicas c.args.team.now.wide bytes (contents script) (once_is bytes c.in_ok-script.field-0 script c.in_ok-script.ensures c.in-Once.is)
     c.in_ok-book-in-Once.book c.in_ok-book-in-Once.text.items ran.config ran.begins ran.told
