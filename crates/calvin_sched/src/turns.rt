@@ -1,9 +1,10 @@
 //! The admitted requests by their places.
-ghost use Rattle.std.specs.Prelude.{◌≡◌, ◌-◌, ◌<◌, None, max, IsOk, IsSome, OnOk, OnErr, IsOkUnless};
+ghost use Rattle.std.specs.Prelude.{◌≡◌, ◌↔◌, ◌-◌, ◌<◌, None, Some, slice_get, max, IsOk, IsSome, IsTrue, OnOk, OnErr, IsOkUnless, MatchOption};
 ghost use Rattle.std.specs.Option.{ForSome, option_copied};
 ghost use Rattle.std.specs.FinMap as map;
 ghost use Rattle.calvin_types.specs.Participants.{site};
-ghost use Rattle.calvin_sched.specs.Keeping.{turns_of};
+ghost use Rattle.calvin_types.specs.Places.{place_cmp};
+ghost use Rattle.calvin_sched.specs.Keeping.{Kept, turns_of};
 ghost use Rattle.calvin_sched.specs.Scheduling.{turn_done};
 ghost use Rattle.calvin_sched.specs.Steps.{begun_turn, with_rows};
 ghost use Rattle.calvin_sched.specs.declared.phase.Phase.TheVariants.{Done};
@@ -12,21 +13,24 @@ use crate::turn::Turn;
 use calvin_app::{App, View};
 use calvin_store::Rows;
 use calvin_types::{Config, Fault, Place};
+use indexmap::IndexMap;
 use std::alloc::Global;
-use std::collections::HashMap;
 use std::marker::Model;
 
-/// At most one admitted request at each place. Room for one more can be reserved.
+/// At most one admitted request at each place. Room for one more can be reserved. They stand in the order in which they were
+/// put, and one is looked for first where one was changed last, and behind that: most of them begin, are run and are finished
+/// in this order.
 #[derive(Drop)]
 pub struct Turns<A: App> {
-    turns: HashMap<Place, Turn<A>>,
+    turns: IndexMap<Place, Turn<A>>,
+    near: usize,
     room: usize,
 }
 
 impl<A: App> Model for Turns<A> {
     ghost use Rattle.std.specs.Prelude.{◌≤◌};
     ghost use Rattle.std.specs.FinMap.{from_entries};
-    ghost use Rattle.std.specs.HashMap.{spare};
+    ghost use Rattle.indexmap.specs.IndexMap.{spare};
     ghost use Rattle.calvin_sched.specs.Keeping.{Seats};
     ghost use Rattle.std.specs.Coded.{codes};
     ghost use Rattle.std.specs.FinMap.{code};
@@ -40,13 +44,40 @@ impl<A: App> Model for Turns<A> {
     ghost invariant = { λ t. t.room ≤ spare t.turns };
 }
 
+/// Whether there is a request with so many before it, and it is at a place.
+fn is_at<A: App>(turns: &IndexMap<Place, Turn<A>>, number: usize, place: Place) -> bool
+    ensures { IsTrue result ↔ ((k : Kept A.Args A.Row) × (slice_get turns.now.entries number ≡ Some (place, k))) }
+{
+    match turns.get_index(number) {
+        Some((other, _)) => *other == place,
+        None => false,
+    }
+}
+
+/// How many requests stand before the one at a place, if that is there. It is looked for first with `near` before it, and then
+/// with one more.
+fn number_of<A: App>(turns: &IndexMap<Place, Turn<A>>, place: Place, near: usize) -> Option<usize>
+    ensures { MatchOption result (map.get (map.from_entries {R = place_cmp} turns.now.entries) place ≡ None) (λ i. (k : Kept A.Args A.Row) × (slice_get turns.now.entries i ≡ Some (place, k))) }
+{
+    if is_at(turns, near, place) {
+        return Some(near);
+    }
+    let next = near.saturating_add(1);
+    if is_at(turns, next, place) {
+        return Some(next);
+    }
+    let (number, _, _) = turns.get_full(&place)?;
+    Some(number)
+}
+
 impl<A: App> Turns<A> {
     /// No request, and room for none.
     pub fn new(alloc: Global) -> Turns<A>
         ensures { result ≡ record { kept = map.empty; room = 0 } }
     {
         Turns {
-            turns: HashMap::new(alloc),
+            turns: IndexMap::new(alloc),
+            near: 0,
             room: 0,
         }
     }
@@ -55,7 +86,9 @@ impl<A: App> Turns<A> {
     pub fn get(&self, place: Place) -> Option<&Turn<A>>
         ensures { option_copied result ≡ map.get self.now.kept place }
     {
-        self.turns.get(&place)
+        let number = number_of(&self.turns, place, self.near)?;
+        let (_, turn) = self.turns.get_index(number)?;
+        Some(turn)
     }
 
     /// Whether the request at a place is done; false where none is there.
@@ -96,9 +129,11 @@ impl<A: App> Turns<A> {
         ensures none { map.get self.old.kept place ≡ None → self.new ≡ self.old }
         ensures some { ForSome (map.get self.old.kept place) (λ k. self.new ≡ record self.old { kept = map.insert self.old.kept place (record { turn = begun_turn (site config.now.partitions partition) (S.store rows.now).map k.turn; room = k.room }) }) }
     {
-        let Some(turn) = self.turns.get_mut(&place) else {
+        let Some(number) = number_of(&self.turns, place, self.near) else {
             return;
         };
+        self.near = number;
+        let (_, turn) = self.turns.pair_mut(number);
         turn.begin(config, partition, rows);
     }
 
@@ -107,9 +142,11 @@ impl<A: App> Turns<A> {
         requires { ForSome (map.get self.old.kept place) (λ k. 0 < k.room) }
         ensures { ForSome (map.get self.old.kept place) (λ k. self.new ≡ record self.old { kept = map.insert self.old.kept place (record { turn = with_rows from rows.now k.turn; room = k.room - 1 }) }) }
     {
-        let Some(turn) = self.turns.get_mut(&place) else {
+        let Some(number) = number_of(&self.turns, place, self.near) else {
             return;
         };
+        self.near = number;
+        let (_, turn) = self.turns.pair_mut(number);
         turn.receive(from, rows);
     }
 
@@ -117,9 +154,11 @@ impl<A: App> Turns<A> {
     pub fn finish(&mut self, place: Place)
         ensures { ForSome (map.get self.old.kept place) (λ k. self.new ≡ record self.old { kept = map.insert self.old.kept place (record { turn = record k.turn { phase = Done }; room = k.room }) }) }
     {
-        let Some(turn) = self.turns.get_mut(&place) else {
+        let Some(number) = number_of(&self.turns, place, self.near) else {
             return;
         };
+        self.near = number;
+        let (_, turn) = self.turns.pair_mut(number);
         turn.finish();
     }
 }

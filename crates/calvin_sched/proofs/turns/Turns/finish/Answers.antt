@@ -1,23 +1,19 @@
 use Rattle.std.proofs.Common.{sym, ap, ◌∙◌}
-use Rattle.std.specs.Prelude.{is_some}
 use Rattle.std.specs.FinMap as map
-use Rattle.std.proofs.lemmas.Option.{none-some, same_Some}
+use Rattle.std.proofs.lemmas.Option.{same_Some}
 use Rattle.calvin_sched.specs.declared.phase.Phase.TheVariants.{Done}
-use Rattle.calvin_sched.proofs.PlaceMaps.{got, put}
+use Rattle.calvin_sched.proofs.PlaceMaps.{got_at, put_at}
 use Rattle.calvin_sched.proofs.turns.Turns.finish.Goals as goal
-
-pub returns-in_default : goal.returns-in_default
-returns-in_default g c = λ k e.
-    let none = sym (ap (λ m. map.get m.kept c.args.place) c.self.view_is) ∙ got c.self.inside.turns.entries c.args.place ∙ sym c.in_default.ensures.value in
-    absurd (none-some _ (sym none ∙ e))
 
 pub returns : goal.returns
 returns g c = λ k e.
-    let there = sym c.in-Some.ensures.value in
+    let m = c.self.inside.turns in
+    let i = c.in-Some.number in
+    let at = c.in-Some.ensures.1 in
+    let there = sym (ap (λ t. map.get t.kept c.args.place) c.self.view_is) ∙ got_at m i c.args.place c.in-Some.ensures.0 c.pair_mut-turn.ensures.unique at in
+    let old = ap (λ (p : _ × _). p.1) (same_Some _ _ (sym c.pair_mut-turn.ensures.value ∙ at)) ∙ same_Some _ _ (sym there ∙ e) in
     let after = c.finish.new.self in
-    let written = (c.get_mut.follows.holds after).3 (ap is_some there) in
-    let is = same_Some _ _ (sym (sym (ap (λ m. map.get m.kept c.args.place) c.self.view_is) ∙ got c.self.inside.turns.entries c.args.place ∙ there) ∙ e) in
-    let now = (λ i. record { turn = c.finish.ensures.turn i; room = c.finish.ensures.room i }) ∙ ap (λ t. record { turn = record t.turn { phase = Done }; room = t.room }) is in
-    let kept = put c.self.inside.turns.entries (c.get_mut.follows.lender after).entries c.args.place after written.0 ∙ ap (λ m. map.insert m.kept c.args.place after) c.self.view_is ∙ ap (map.insert c.args.self.now.kept c.args.place) now in
-    let room = ap (λ m. m.room) c.self.view_is in
-    λ i. record { kept = kept i; room = room i }
+    let now = (λ j. record { turn = c.finish.ensures.turn j; room = c.finish.ensures.room j }) ∙ ap (λ t. record { turn = record t.turn { phase = Done }; room = t.room }) old in
+    let kept = put_at m i c.args.place c.in-Some.ensures.0 after c.pair_mut-turn.ensures.unique at ∙ ap (λ t. map.insert t.kept c.args.place after) c.self.view_is ∙ ap (map.insert c.args.self.now.kept c.args.place) now in
+    let room = ap (λ t. t.room) c.self.view_is in
+    λ j. record { kept = kept j; room = room j }
