@@ -49,7 +49,10 @@ writes_within (Move from to amount) v k h = go (nat_lt source amount) (from == t
   target : ℕ
   target = unwrap_or (finmap.get v (key_of to)) 0
 
-  go : (b c d : Bool) → has (map (λ w. w.0) ((λ (r : KvReply × List (Key × ℕ)). r.1) (if b then (Short, []) else (if c then (Done, []) else (if d then (Done, (key_of from, source - amount) ∷ (key_of to, target + amount) ∷ []) else (Limit, [])))))) k ≡ true → has (pair_of from to) k ≡ true
+  go : (b c d : Bool) → has (map (λ w. w.0)
+      ((λ (r : KvReply × List (Key × ℕ)). r.1) (if b then (Short, []) else
+      (if c then (Done, []) else (if d then (Done, (key_of from, source - amount) ∷ (key_of to, target + amount) ∷ []) else (Limit, [])))))) k ≡ true
+      → has (pair_of from to) k ≡ true
   go true c d h = absurd (false≢true h)
   go false true d h = absurd (false≢true h)
   go false false false h = absurd (false≢true h)

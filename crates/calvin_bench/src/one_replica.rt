@@ -93,7 +93,8 @@ impl<A: App + Drop, L: Locks + Drop, S: Rows<A::Row> + Drop> OneReplica<A, L, S>
         // Answers, served rows and standing partitions are those of the serial run.
         ensures serially { IfOk result (λ outcomes. RunsSerially A.meaning self.old.count self.old.order steps.now outcomes.items self.new.parts) }
         // The same was so after each beginning of the steps.
-        ensures beginnings { IfOk result (λ outcomes. (early late : List AStep) → steps.now ≡ early ++ late → IsBeginning A.meaning self.old.count self.old.order self.old.parts early late outcomes.items self.new.parts) }
+        ensures beginnings { IfOk result (λ outcomes. (early late : List AStep) → steps.now ≡ early ++ late
+            → IsBeginning A.meaning self.old.count self.old.order self.old.parts early late outcomes.items self.new.parts) }
     {
         let mut outcomes = Vec::with_capacity(self.alloc, steps.len())?;
         for step in steps {

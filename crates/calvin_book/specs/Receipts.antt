@@ -49,7 +49,8 @@ module _ {Args : Type 0} where
 
   -- no event of another number submits a request of this id and attempt
   abbrev pub IsOnly : Log Args → Submission Args → Type 0
-  IsOnly log s = (other : ℕ) (event : Event Args) → slice_get log.events other ≡ Some event → (at : NodeId) (t : Txn Args) → IsSubmit event at t → t.id ≡ s.txn.id → t.attempt ≡ s.txn.attempt → other ≡ s.number
+  IsOnly log s = (other : ℕ) (event : Event Args) → slice_get log.events other ≡ Some event → (at : NodeId) (t : Txn Args) → IsSubmit event at t
+      → t.id ≡ s.txn.id → t.attempt ≡ s.txn.attempt → other ≡ s.number
 
 module _ {Args Row : Type 0} where
   -- the node isn't there; or its next epoch isn't above the told one; or the sequencer refuses the request, or memory ran out

@@ -121,7 +121,9 @@ impl<A: App + Drop, L: Locks + Drop, S: Rows<A::Row> + Drop> Book<A, L, S> {
         ensures due { OnOk result (job_of (world_after A.meaning self.old.config self.old.events) id computed.now.job.place ≡ Ok computed.now.job) }
         ensures ok { OnOk result (Applied A.meaning self.old (At id (Finish computed.now.job.place)) self.new) }
         ensures err { OnErr result (self.new ≡ self.old) }
-        ensures only { (fault : Fault) → result ≡ Err fault → IsNotFinished self.old.config computed.now.job (node_at (world_after A.meaning self.old.config self.old.events) id) fault ⊎ (fault ≡ OutOfMemory) }
+        ensures only { (fault : Fault) → result ≡ Err fault
+            → IsNotFinished self.old.config computed.now.job (node_at (world_after A.meaning self.old.config self.old.events) id) fault
+            ⊎ (fault ≡ OutOfMemory) }
     {
         self.events.reserve(1)?;
         self.sent.reserve(1)?;

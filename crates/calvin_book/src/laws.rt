@@ -19,12 +19,14 @@ use calvin_app::App;
 
 /// What a submission says of a book stays true however it grows.
 pub fn submission_stays<Args, Row, Reply>()
-    ensures { (m : Meaning Args Row Reply) (c : Config) (xs more : List (Event Args)) (s : Submission Args) → IsSubmitted m (record { config = c; events = xs }) s → IsSubmitted m (record { config = c; events = xs ++ more }) s }
+    ensures { (m : Meaning Args Row Reply) (c : Config) (xs more : List (Event Args)) (s : Submission Args)
+        → IsSubmitted m (record { config = c; events = xs }) s → IsSubmitted m (record { config = c; events = xs ++ more }) s }
 {}
 
 /// What an answer says of a book stays true however it grows: the first reply stays first.
 pub fn reply_stays<Args, Row, Reply>()
-    ensures { (m : Meaning Args Row Reply) (c : Config) (xs more : List (Event Args)) (a : Answered Args Reply) → IsAnswered m (record { config = c; events = xs }) a → IsAnswered m (record { config = c; events = xs ++ more }) a }
+    ensures { (m : Meaning Args Row Reply) (c : Config) (xs more : List (Event Args)) (a : Answered Args Reply)
+        → IsAnswered m (record { config = c; events = xs }) a → IsAnswered m (record { config = c; events = xs ++ more }) a }
 {}
 
 /// Before the first packet there is no reply: a first look may begin at 0.

@@ -84,7 +84,8 @@ impl<E, J: Naming> Model for Pens<E, J> {
 
     ghost view = { λ p. p.next };
 
-    ghost invariant = { λ p. (p.seen.log ≡ Nodes J.nodes ∷ []) × (p.seen.book ≡ J.book) × (p.rights.book ≡ J.book) × (p.rights.next ≡ p.next) × (p.rights.next + p.rights.left ≡ J.nodes) × (J.nodes < 2 ^ 64) };
+    ghost invariant = { λ p. (p.seen.log ≡ Nodes J.nodes ∷ []) × (p.seen.book ≡ J.book) × (p.rights.book ≡ J.book) × (p.rights.next ≡ p.next)
+        × (p.rights.next + p.rights.left ≡ J.nodes) × (J.nodes < 2 ^ 64) };
 }
 
 impl<E, J: Naming> Pens<E, J> {

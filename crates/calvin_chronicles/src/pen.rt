@@ -28,7 +28,8 @@ impl<E, J: Naming> Model for Pen<E, J> {
 
     ghost view = { λ p. (p.node, events_of (part_at p.node p.seen.log)) };
 
-    ghost invariant = { λ p. (p.count ≡ length (part_at p.node p.seen.log)) × (p.seen.book ≡ J.book) × (p.head ≡ head_of J.book p.node) × (part_at p.node p.seen.log ≡ as_log (events_of (part_at p.node p.seen.log))) × (nodes_of p.seen.log ≡ J.nodes) × (p.node < J.nodes) };
+    ghost invariant = { λ p. (p.count ≡ length (part_at p.node p.seen.log)) × (p.seen.book ≡ J.book) × (p.head ≡ head_of J.book p.node)
+        × (part_at p.node p.seen.log ≡ as_log (events_of (part_at p.node p.seen.log))) × (nodes_of p.seen.log ≡ J.nodes) × (p.node < J.nodes) };
 }
 
 /// How far the history of a node had come at some time. To a contract it is the node and its events until then. At run time it is

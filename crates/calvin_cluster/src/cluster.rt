@@ -170,7 +170,8 @@ where
         requires config { book.config ≡ J.config }
         ensures start { IfOk result (λ c. c.start ≡ book.events) }
         ensures back { IfErr result (λ refused. refused.1 ≡ book) }
-        ensures only { IfErr result (λ refused. (((workers ≡ 0) ⊎ (MOST_WORKERS < workers)) × (refused.0 ≡ Fault.BadWorkers)) ⊎ ((0 < workers) × (workers ≤ MOST_WORKERS) × (refused.0 ≡ Fault.OutOfMemory))) }
+        ensures only { IfErr result (λ refused. (((workers ≡ 0) ⊎ (MOST_WORKERS < workers)) × (refused.0 ≡ Fault.BadWorkers))
+            ⊎ ((0 < workers) × (workers ≤ MOST_WORKERS) × (refused.0 ≡ Fault.OutOfMemory))) }
     {
         Self::open_in_drill(rt, alloc, app, opened, book, gate, workers, NO_DRILL)
     }
@@ -190,7 +191,8 @@ where
         requires config { book.config ≡ J.config }
         ensures start { IfOk result (λ c. c.start ≡ book.events) }
         ensures back { IfErr result (λ refused. refused.1 ≡ book) }
-        ensures only { IfErr result (λ refused. (((workers ≡ 0) ⊎ (MOST_WORKERS < workers)) × (refused.0 ≡ Fault.BadWorkers)) ⊎ ((0 < workers) × (workers ≤ MOST_WORKERS) × (refused.0 ≡ Fault.OutOfMemory))) }
+        ensures only { IfErr result (λ refused. (((workers ≡ 0) ⊎ (MOST_WORKERS < workers)) × (refused.0 ≡ Fault.BadWorkers))
+            ⊎ ((0 < workers) × (workers ≤ MOST_WORKERS) × (refused.0 ≡ Fault.OutOfMemory))) }
     {
         if workers == 0 {
             return Err((Fault::BadWorkers, book));

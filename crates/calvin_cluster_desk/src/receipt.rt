@@ -69,7 +69,8 @@ impl<A: App, J: Founding> Model for Report<A, J> {
 
     ghost view = { λ r. r.answered };
 
-    ghost invariant = { λ r. IsSubmitted A.meaning (record { config = J.config; events = r.asked }) r.answered.submission × IsReplied A.meaning (record { config = J.config; events = r.mark }) r.answered };
+    ghost invariant = { λ r. IsSubmitted A.meaning (record { config = J.config; events = r.asked }) r.answered.submission
+        × IsReplied A.meaning (record { config = J.config; events = r.mark }) r.answered };
 }
 
 /// What a caller was told: nothing yet, or what an answer tells, that it and all up to an epoch happened. A caller hands it in with

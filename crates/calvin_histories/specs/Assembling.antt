@@ -31,5 +31,6 @@ module _ {Args Row Reply : Type 0} (m : Meaning Args Row Reply) where
     pub each : AreListed senders.partitions senders.lists.items (senders_of (world_after m log.config log.events).packets)
 
   abbrev pub IsStuckAt : Log Args → List (List (Entry Args Row Reply)) → List ℕ → ℕ → Type 0
-  IsStuckAt log histories taken i = (n : ℕ) (history : List (Entry Args Row Reply)) (next : Entry Args Row Reply) → slice_get taken i ≡ Some n → slice_get histories i ≡ Some history → slice_get history n ≡ Some next
+  IsStuckAt log histories taken i = (n : ℕ) (history : List (Entry Args Row Reply)) (next : Entry Args Row Reply) → slice_get taken i ≡ Some n
+      → slice_get histories i ≡ Some history → slice_get history n ≡ Some next
       → Fits m (world_after m log.config log.events) (id_of log.config.partitions i) next → ⊥

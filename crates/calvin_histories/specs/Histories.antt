@@ -109,8 +109,11 @@ module _ {Args Row Reply : Type 0} where
       pub record IsStuck (histories : List (List (Entry Args Row Reply))) (node : NodeId) (entry : ℕ) : Type 0 where
         pub events : List (Event Args)
         pub run : IsRun m c events (world_after m c events)
-        pub beginnings : (i : ℕ) (history : List (Entry Args Row Reply)) → slice_get histories i ≡ Some history → (left : List (Entry Args Row Reply)) × (part_at (opening c) events (id_of c.partitions i) ++ left ≡ history)
-        pub none_fits : (i : ℕ) (next : Entry Args Row Reply) (left : List (Entry Args Row Reply)) → slice_get histories i ≡ Some (part_at (opening c) events (id_of c.partitions i) ++ next ∷ left) → Fits (world_after m c events) (id_of c.partitions i) next → ⊥
+        pub beginnings : (i : ℕ) (history : List (Entry Args Row Reply)) → slice_get histories i ≡ Some history
+            → (left : List (Entry Args Row Reply)) × (part_at (opening c) events (id_of c.partitions i) ++ left ≡ history)
+        pub none_fits : (i : ℕ) (next : Entry Args Row Reply) (left : List (Entry Args Row Reply))
+            → slice_get histories i ≡ Some (part_at (opening c) events (id_of c.partitions i) ++ next ∷ left)
+            → Fits (world_after m c events) (id_of c.partitions i) next → ⊥
         pub at : ℕ
         pub is_at : node ≡ id_of c.partitions at
         pub left : (history : List (Entry Args Row Reply)) × (slice_get histories at ≡ Some history) × (length (part_at (opening c) events node) ≡ entry) × (entry < length history)

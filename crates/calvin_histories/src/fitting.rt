@@ -24,7 +24,9 @@ pub(crate) fn event_of<A: App + Drop, L: Locks + Drop, S: Rows<A::Row> + Drop>(
     entry: &Entry<A::Args, A::Row, A::Reply>,
 ) -> Option<Event<A::Args>>
     requires listed { AreListed senders.now.partitions senders.now.lists.items (senders_of world.now.packets) }
-    ensures { MatchOption result ((event : Event A.Args) → entry_of world.now event ≡ Some (id, entry.now) → ⊥) (λ event. (entry_of world.now event ≡ Some (id, entry.now)) × ((other : Event A.Args) → entry_of world.now other ≡ Some (id, entry.now) → other ≡ event)) }
+    ensures { MatchOption result ((event : Event A.Args) → entry_of world.now event ≡ Some (id, entry.now)
+        → ⊥) (λ event. (entry_of world.now event ≡ Some (id, entry.now))
+        × ((other : Event A.Args) → entry_of world.now other ≡ Some (id, entry.now) → other ≡ event)) }
 {
     match entry {
         Entry::Own(act) => Some(Event::At(id, *act)),
@@ -41,7 +43,9 @@ fn delivery_of<A: App + Drop, L: Locks + Drop, S: Rows<A::Row> + Drop>(
     packet: &Packet<A::Args, A::Row, A::Reply>,
 ) -> Option<Event<A::Args>>
     requires listed { AreListed senders.now.partitions senders.now.lists.items (senders_of world.now.packets) }
-    ensures { MatchOption result ((event : Event A.Args) → entry_of world.now event ≡ Some (id, Came name packet.now) → ⊥) (λ event. (entry_of world.now event ≡ Some (id, Came name packet.now)) × ((other : Event A.Args) → entry_of world.now other ≡ Some (id, Came name packet.now) → other ≡ event)) }
+    ensures { MatchOption result ((event : Event A.Args) → entry_of world.now event ≡ Some (id, Came name packet.now)
+        → ⊥) (λ event. (entry_of world.now event ≡ Some (id, Came name packet.now))
+        × ((other : Event A.Args) → entry_of world.now other ≡ Some (id, Came name packet.now) → other ≡ event)) }
 {
     let Some(number) = number_of(world, senders, name) else {
         return None;

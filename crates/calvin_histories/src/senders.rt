@@ -105,7 +105,8 @@ impl Senders {
     /// The packet of a number, the next one, is from this node. Refused with `OutOfMemory` alone.
     pub fn note(&mut self, sender: NodeId, number: usize) -> Result<(), Fault>
         ensures same { (self.new.partitions ≡ self.old.partitions) × (length self.new.lists.items ≡ length self.old.lists.items) }
-        ensures listed { OnOk result ((senders : List NodeId) → length senders ≡ number → AreListed self.old.partitions self.old.lists.items senders → AreListed self.old.partitions self.new.lists.items (senders ++ sender ∷ [])) }
+        ensures listed { OnOk result ((senders : List NodeId) → length senders ≡ number → AreListed self.old.partitions self.old.lists.items senders
+            → AreListed self.old.partitions self.new.lists.items (senders ++ sender ∷ [])) }
         ensures only { IsOkUnless result Fault.OutOfMemory }
     {
         let Some(at) = self.place(sender) else {
@@ -119,7 +120,8 @@ impl Senders {
         &mut self,
         packets: &[Packet<Args, Row, Reply>],
     ) -> Result<(), Fault>
-        ensures listed { OnOk result (AreListed self.old.partitions self.old.lists.items (take self.old.listed (senders_of packets.now)) → (self.new.listed ≡ length packets.now) × AreListed self.new.partitions self.new.lists.items (senders_of packets.now)) }
+        ensures listed { OnOk result (AreListed self.old.partitions self.old.lists.items (take self.old.listed (senders_of packets.now))
+            → (self.new.listed ≡ length packets.now) × AreListed self.new.partitions self.new.lists.items (senders_of packets.now)) }
         ensures only { IsOkUnless result Fault.OutOfMemory }
     {
         for number in self.listed..packets.len() {
@@ -152,7 +154,9 @@ impl Senders {
 
     /// The number of the packet with a name, among those that are listed, if packets of its sender are.
     pub fn find(&self, name: PacketName) -> Option<usize>
-        ensures { IsListed self.now.partitions self.now.lists.items name.sender → (senders : List NodeId) → AreListed self.now.partitions self.now.lists.items senders → MatchOption result ((number : ℕ) → IsAt senders name number → ⊥) (IsAt senders name) }
+        ensures { IsListed self.now.partitions self.now.lists.items name.sender → (senders : List NodeId)
+            → AreListed self.now.partitions self.now.lists.items senders
+            → MatchOption result ((number : ℕ) → IsAt senders name number → ⊥) (IsAt senders name) }
     {
         let at = self.place(name.sender)?;
         self.lists[at].get(name.number)

@@ -22,7 +22,8 @@ fn settle(queue: &mut Queue, unreleased: &mut Unreleased)
     ensures settled { IsSettled queue.new.holders queue.new.waiting.items }
     ensures sets { (q : Place) → option_map (λ p. p.sets) (pending_at unreleased.new.places.entries q) ≡ option_map (λ p. p.sets) (pending_at unreleased.old.places.entries q) }
     ensures order { unreleased.new.order.items ≡ unreleased.old.order.items }
-    ensures waits { (more : Place → ℕ) → WaitsFor (λ q. more q + waits_in q queue.old.waiting.items) unreleased.old.places.entries → WaitsFor (λ q. more q + waits_in q queue.new.waiting.items) unreleased.new.places.entries }
+    ensures waits { (more : Place → ℕ) → WaitsFor (λ q. more q + waits_in q queue.old.waiting.items) unreleased.old.places.entries
+        → WaitsFor (λ q. more q + waits_in q queue.new.waiting.items) unreleased.new.places.entries }
 {
     while let Some(place) = queue.grant_next() {
         unreleased.grant(place);
@@ -57,9 +58,16 @@ impl Queues {
         ensures fits { AllFit self.new.queues.entries }
         ensures sets { (q : Place) → option_map (λ p. p.sets) (pending_at unreleased.new.places.entries q) ≡ option_map (λ p. p.sets) (pending_at unreleased.old.places.entries q) }
         ensures order { unreleased.new.order.items ≡ unreleased.old.order.items }
-        ensures queues { (before after : Key → List Ask) → AreQueuesOrEmpty before self.old.queues.entries → ((k : Key) → asked keys.now except.now k ≡ true → Leaves (before k) (after k)) → AreQueuesOrEmpty (λ k. cond (asked keys.now except.now k) (after k) (before k)) self.new.queues.entries }
-        ensures nobody { (before after : Key → List Ask) → AreQueues before self.old.queues.entries → ((k : Key) → asked keys.now except.now k ≡ true → Leaves (before k) (after k)) → NoneIsEmpty (λ k. cond (asked keys.now except.now k) (after k) (before k)) self.new.queues.entries }
-        ensures waits { (before after : Key → List Ask) → AreQueuesOrEmpty before self.old.queues.entries → ((k : Key) → asked keys.now except.now k ≡ true → Leaves (before k) (after k)) → WaitsFor (λ q. waits_of q self.old.queues.entries) unreleased.old.places.entries → WaitsFor (λ q. waits_of q self.new.queues.entries) unreleased.new.places.entries }
+        ensures queues { (before after : Key → List Ask) → AreQueuesOrEmpty before self.old.queues.entries
+            → ((k : Key) → asked keys.now except.now k ≡ true → Leaves (before k) (after k))
+            → AreQueuesOrEmpty (λ k. cond (asked keys.now except.now k) (after k) (before k)) self.new.queues.entries }
+        ensures nobody { (before after : Key → List Ask) → AreQueues before self.old.queues.entries
+            → ((k : Key) → asked keys.now except.now k ≡ true → Leaves (before k) (after k))
+            → NoneIsEmpty (λ k. cond (asked keys.now except.now k) (after k) (before k)) self.new.queues.entries }
+        ensures waits { (before after : Key → List Ask) → AreQueuesOrEmpty before self.old.queues.entries
+            → ((k : Key) → asked keys.now except.now k ≡ true → Leaves (before k) (after k))
+            → WaitsFor (λ q. waits_of q self.old.queues.entries) unreleased.old.places.entries
+            → WaitsFor (λ q. waits_of q self.new.queues.entries) unreleased.new.places.entries }
     {
         for i in 0..keys.len() {
             let key = keys.at(i);

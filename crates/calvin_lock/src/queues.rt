@@ -119,7 +119,8 @@ impl Queues {
     /// Adds a place to the queues of some keys but for others, which have room for it, and says of how many it waits.
     pub(crate) fn join(&mut self, place: Place, keys: &KeySet, except: &KeySet, kind: Kind) -> usize
         requires { (k : Key) → asked keys.now except.now k ≡ true → HasRoomAt self.old.queues.entries k kind }
-        ensures kept { (asks : Key → List Ask) → AreQueuesOrEmpty asks self.old.queues.entries → AreQueuesOrEmpty (λ k. asks k ++ ask_if place kind (asked keys.now except.now k)) self.new.queues.entries }
+        ensures kept { (asks : Key → List Ask) → AreQueuesOrEmpty asks self.old.queues.entries
+            → AreQueuesOrEmpty (λ k. asks k ++ ask_if place kind (asked keys.now except.now k)) self.new.queues.entries }
         ensures waits { (q : Place) → waits_of q self.new.queues.entries ≡ waits_of q self.old.queues.entries + (if equal_places q place then result else 0) }
         ensures room { (k : Key) (other : Kind) → asked keys.now except.now k ≡ false → HasRoomAt self.old.queues.entries k other → HasRoomAt self.new.queues.entries k other }
         ensures none_new { NoneIsNew self.old.queues.entries self.new.queues.entries }

@@ -89,7 +89,8 @@ impl Unreleased {
         ensures kept { IsUnreleased self.new }
         ensures places { self.new.places ≡ self.old.places }
         ensures order { (q : Place) → Among self.new.order.items q → Among self.old.order.items q }
-        ensures tidied { vec_capacity self.old.order ≤ vec_len self.old.order → length self.old.places.entries ≤ vec_len self.old.order / 4 → (q : Place) → Among self.new.order.items q → IsSome (pending_at self.new.places.entries q) }
+        ensures tidied { vec_capacity self.old.order ≤ vec_len self.old.order → length self.old.places.entries ≤ vec_len self.old.order / 4
+            → (q : Place) → Among self.new.order.items q → IsSome (pending_at self.new.places.entries q) }
     {
         let taken = self.order.len();
         if taken < self.order.capacity() || taken / 4 < self.places.len() {
@@ -142,7 +143,9 @@ impl Unreleased {
         requires new { pending_at self.old.places.entries place ≡ None }
         requires last { (q : Place) → Among self.old.order.items q → IsBefore q place }
         ensures kept { IsUnreleased self.new }
-        ensures places { (q : Place) → pending_at self.new.places.entries q ≡ cond (equal_places place q) (Some (record { sets = sets; waits = waits; near = vec_len self.old.order })) (pending_at self.old.places.entries q) }
+        ensures places { (q : Place)
+            → pending_at self.new.places.entries q ≡ cond (equal_places place q)
+            (Some (record { sets = sets; waits = waits; near = vec_len self.old.order })) (pending_at self.old.places.entries q) }
         ensures order { IsUpTo self.new (Some place) }
     {
         let near = self.order.len();
@@ -158,7 +161,9 @@ impl Unreleased {
     pub(crate) fn grant(&mut self, place: Place)
         requires { IsUnreleased self.old }
         ensures kept { IsUnreleased self.new }
-        ensures places { (q : Place) → pending_at self.new.places.entries q ≡ cond (equal_places place q) (option_map with_fewer (pending_at self.old.places.entries q)) (pending_at self.old.places.entries q) }
+        ensures places { (q : Place)
+            → pending_at self.new.places.entries q ≡ cond (equal_places place q) (option_map with_fewer (pending_at self.old.places.entries q))
+            (pending_at self.old.places.entries q) }
         ensures order { self.new.order.items ≡ self.old.order.items }
     {
         if let Some(pending) = self.places.get_mut(&place) {
@@ -177,7 +182,10 @@ impl Unreleased {
     pub(crate) fn take(&mut self, place: Place) -> Option<Sets>
         requires { IsUnreleased self.old }
         ensures kept { IsUnreleased self.new }
-        ensures taken { MatchOption result ((¬ IsReadyIn self.old.places.entries place) × (self.new.places.entries ≡ self.old.places.entries)) (λ sets. ((n : ℕ) × (pending_at self.old.places.entries place ≡ Some (record { sets = sets; waits = 0; near = n }))) × ((q : Place) → pending_at self.new.places.entries q ≡ cond (equal_places place q) None (pending_at self.old.places.entries q))) }
+        ensures taken { MatchOption result ((¬ IsReadyIn self.old.places.entries place)
+            × (self.new.places.entries ≡ self.old.places.entries)) (λ sets. ((n : ℕ)
+            × (pending_at self.old.places.entries place ≡ Some (record { sets = sets; waits = 0; near = n })))
+            × ((q : Place) → pending_at self.new.places.entries q ≡ cond (equal_places place q) None (pending_at self.old.places.entries q))) }
         ensures order { self.new.order.items ≡ self.old.order.items }
     {
         let pending = self.places.get(&place)?;

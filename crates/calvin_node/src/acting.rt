@@ -15,7 +15,8 @@ use calvin_types::{Fault, Place};
 impl<A: App, L: Locks + Drop, S: Rows<A::Row> + Drop> Node<A, L, S> {
     /// One of the node's own events happens. Refused as the call of its name is.
     pub fn act(&mut self, act: &Act<A::Args>, app: &A, outbox: &mut Outbox<A>) -> Result<(), Fault>
-        ensures did { NodeDid (act_grows self.old.config act.now self.old.state) result (acting.deed_of A.meaning self.old.config act.now self.old.state) self.old self.new outbox.old.packets outbox.new.packets }
+        ensures did { NodeDid (act_grows self.old.config act.now self.old.state)
+            result (acting.deed_of A.meaning self.old.config act.now self.old.state) self.old self.new outbox.old.packets outbox.new.packets }
     {
         match act {
             Act::Submit(txn) => self.submit(*txn),

@@ -38,7 +38,8 @@ impl<A: App, L: Locks + Drop, S: Rows<A::Row> + Drop> Node<A, L, S> {
     /// `Begun` where it has begun or is done, else with `NotReady` where it hasn't all its locks; else with `OutOfMemory`
     /// where it reads a key here, another partition runs it too, and a growth was refused.
     pub fn begin(&mut self, place: Place, outbox: &mut Outbox<A>) -> Result<(), Fault>
-        ensures did { NodeDid (act_grows self.old.config (act.Begin place) self.old.state) result (acting.begin self.old.config place self.old.state) self.old self.new outbox.old.packets outbox.new.packets }
+        ensures did { NodeDid (act_grows self.old.config (act.Begin place) self.old.state)
+            result (acting.begin self.old.config place self.old.state) self.old self.new outbox.old.packets outbox.new.packets }
     {
         self.scheduler.due_is_undone();
         if !self.scheduler.serves_others(place) {

@@ -28,7 +28,8 @@ impl<A: App, L: Locks + Drop, S: Rows<A::Row> + Drop> Node<A, L, S> {
         packet: &Packet<A::Args, A::Row, A::Reply>,
         outbox: &mut Outbox<A>,
     ) -> Result<(), Fault>
-        ensures did { NodeDid (content_grows self.old.config packet.now.content self.old.state) result (handling.handle self.old.config packet.now self.old.state) self.old self.new outbox.old.packets outbox.new.packets }
+        ensures did { NodeDid (content_grows self.old.config packet.now.content self.old.state)
+            result (handling.handle self.old.config packet.now self.old.state) self.old self.new outbox.old.packets outbox.new.packets }
     {
         if !packet.to.is_for(self.layer.id()) {
             return Err(Fault::NotMine);
@@ -43,7 +44,8 @@ impl<A: App, L: Locks + Drop, S: Rows<A::Row> + Drop> Node<A, L, S> {
         content: &Content<A::Args, A::Row, A::Reply>,
         outbox: &mut Outbox<A>,
     ) -> Result<(), Fault>
-        ensures did { NodeDid (content_grows self.old.config content.now self.old.state) result (handling.handle_content self.old.config from content.now self.old.state) self.old self.new outbox.old.packets outbox.new.packets }
+        ensures did { NodeDid (content_grows self.old.config content.now self.old.state)
+            result (handling.handle_content self.old.config from content.now self.old.state) self.old self.new outbox.old.packets outbox.new.packets }
     {
         match content {
             Content::Synod(message) => self.layer.on_synod(from, message, outbox),
@@ -59,7 +61,9 @@ impl<A: App, L: Locks + Drop, S: Rows<A::Row> + Drop> Node<A, L, S> {
     /// The rows that another partition read for the request at a place are kept (section 3.2: remote reads). Refused with
     /// `NotAwaited` where they aren't awaited. It takes no memory.
     fn on_reads(&mut self, from: u8, place: Place, rows: &View<A::Row>) -> Result<(), Fault>
-        ensures did { NodeDid {Reply = A.Reply} false result (handling.by_scheduler self.old.state (steps.on_reads (site_of self.old.config.partitions self.old.state) place from rows.now self.old.state.scheduler)) self.old self.new [] [] }
+        ensures did { NodeDid {Reply = A.Reply} false result (handling.by_scheduler self.old.state
+            (steps.on_reads (site_of self.old.config.partitions self.old.state) place from rows.now self.old.state.scheduler))
+            self.old self.new [] [] }
     {
         self.scheduler.due_is_undone();
         self.scheduler.on_reads(place, from, rows)
@@ -68,7 +72,8 @@ impl<A: App, L: Locks + Drop, S: Rows<A::Row> + Drop> Node<A, L, S> {
     /// The rows that were read here for the request at a place are sent again to a node that asks for them. Refused with
     /// `NotServed` where it reads no key here, isn't admitted, or has not begun.
     fn on_ask_reads(&self, from: NodeId, place: Place, outbox: &mut Outbox<A>) -> Result<(), Fault>
-        ensures did { NodeDid true result (handling.on_ask_reads self.now.config from place self.now.state (turn_at self.now.state.scheduler place)) self.now self.now outbox.old.packets outbox.new.packets }
+        ensures did { NodeDid true result (handling.on_ask_reads self.now.config from place self.now.state
+            (turn_at self.now.state.scheduler place)) self.now self.now outbox.old.packets outbox.new.packets }
     {
         self.scheduler.due_is_undone();
         if !self.scheduler.reads_here(place) {
@@ -85,7 +90,8 @@ impl<A: App, L: Locks + Drop, S: Rows<A::Row> + Drop> Node<A, L, S> {
     /// The rows of these keys come back from the cold table, where they are there (section 4). Refused with `OutOfMemory` where
     /// there is such a table, one of these keys has its row there, and a growth was refused.
     fn on_warm(&mut self, sets: &Sets) -> Result<(), Fault>
-        ensures did { NodeDid {Reply = A.Reply} (warm_grows self.old.config.cold (sets.now.reads ++ sets.now.writes) self.old.state.scheduler.store) result (handling.handle_content self.old.config self.old.state.id (Warm sets.now) self.old.state) self.old self.new [] [] }
+        ensures did { NodeDid {Reply = A.Reply} (warm_grows self.old.config.cold (sets.now.reads ++ sets.now.writes) self.old.state.scheduler.store)
+            result (handling.handle_content self.old.config self.old.state.id (Warm sets.now) self.old.state) self.old self.new [] [] }
     {
         self.scheduler.due_is_undone();
         self.scheduler.warm(sets)

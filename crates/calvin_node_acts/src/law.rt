@@ -14,6 +14,7 @@ ghost use Rattle.calvin_node_acts.specs.Acting.{lock};
 
 /// A reply that reaches a node is refused, and a new node has nothing to lock.
 pub fn refuses<Args, Row, Reply>()
-    ensures replies { (c : Config) (from : NodeId) (q : Place) (id : RequestId) (attempt : ℕ) (answer : Answer Reply) (x : NodeState Args Row) → ◌≡◌ {A = NodeDeed Args Row Reply} (handle_content c from (Replies q id attempt answer) x) (Refuses NotMine) }
+    ensures replies { (c : Config) (from : NodeId) (q : Place) (id : RequestId) (attempt : ℕ) (answer : Answer Reply) (x : NodeState Args Row)
+        → ◌≡◌ {A = NodeDeed Args Row Reply} (handle_content c from (Replies q id attempt answer) x) (Refuses NotMine) }
     ensures locks { (c : Config) (id : NodeId) → ◌≡◌ {A = NodeDeed Args Row Reply} (lock c (new_node id)) (Refuses NothingToLock) }
 {}

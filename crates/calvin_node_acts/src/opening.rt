@@ -65,7 +65,15 @@ pub fn scheduler_from<A: App, L: Locks + Drop, S: Rows<A::Row> + Drop>(
     partition: u8,
     kept: &Option<(u64, Snapshot<A::Row>)>,
 ) -> Result<Scheduler<A, L, S>, Fault>
-    ensures ok { IfOk result (λ s. s ≡ record { here = site config.now.partitions partition; scheduling = opened (end_of (kept_epochs kept.now)) (kept_rows kept.now); room = s.room; merged = kept_epochs kept.now; due = []; due_room = 0 }) }
+    ensures ok { IfOk result
+        (λ s. s ≡ record {
+          here = site config.now.partitions partition;
+          scheduling = opened (end_of (kept_epochs kept.now)) (kept_rows kept.now);
+          room = s.room;
+          merged = kept_epochs kept.now;
+          due = [];
+          due_room = 0;
+        }) }
     ensures only { IfErr result (λ fault. (fault ≡ Fault.OutOfMemory) × (has_snapshot (kept_epochs kept.now) ≡ true)) }
 {
     match kept {

@@ -23,7 +23,9 @@ pub fn post_served<A: App, L: Locks + Drop, S: Rows<A::Row> + Drop>(
     outbox: &mut Outbox<A>,
 )
     requires { MOST_KEYS ≤ outbox.old.room }
-    ensures some { ForSome (turn_at scheduler.now.scheduling place) (λ x. outbox.new.packets ≡ outbox.old.packets ++ to_each me me.replica (Reads place x.served) (other_active (site config.now.partitions me.partition) x.request)) }
+    ensures some { ForSome (turn_at scheduler.now.scheduling place)
+        (λ x. outbox.new.packets ≡ outbox.old.packets ++ to_each me me.replica (Reads place x.served) (other_active
+        (site config.now.partitions me.partition) x.request)) }
     ensures none { turn_at scheduler.now.scheduling place ≡ None → outbox.new.packets ≡ outbox.old.packets }
 {
     if let Some(turn) = scheduler.turn(place) {

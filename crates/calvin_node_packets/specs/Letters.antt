@@ -19,8 +19,10 @@ given_by (Does x letters given) = given
 
 module _ {Args Row Reply : Type 0} where
   -- the deed takes effect: the replica is what it leaves, and its letters, and the batch that is decided with it, are sent after the others; or it is its refusal, and nothing changed; or memory ran out, where something grows, and nothing changed
-  abbrev pub MemberSent : Bool → Result (Option (Slot × Batch Args)) Fault → Deed (Batch Args) → ℕ → ℕ → NodeId → MemberState (Batch Args) → MemberState (Batch Args) → List (Packet Args Row Reply) → List (Packet Args Row Reply) → Type 0
+  abbrev pub MemberSent : Bool → Result (Option (Slot × Batch Args)) Fault → Deed (Batch Args) → ℕ → ℕ → NodeId → MemberState (Batch Args)
+      → MemberState (Batch Args) → List (Packet Args Row Reply) → List (Packet Args Row Reply) → Type 0
   MemberSent grows (Ok gave) (Refuses fault) replicas parts me m after sent all = ⊥
-  MemberSent grows (Ok gave) (Does x letters given) replicas parts me m after sent all = (gave ≡ given) × (after ≡ record m { replica = x }) × (all ≡ sent ++ (synod_packets replicas me letters ++ telling parts me given))
+  MemberSent grows (Ok gave) (Does x letters given) replicas parts me m after sent all = (gave ≡ given) × (after ≡ record m { replica = x })
+      × (all ≡ sent ++ (synod_packets replicas me letters ++ telling parts me given))
   MemberSent grows (Err refusal) (Refuses fault) replicas parts me m after sent all = (refusal ≡ fault) × (after ≡ m) × (all ≡ sent)
   MemberSent grows (Err refusal) (Does x letters given) replicas parts me m after sent all = (grows ≡ true) × (refusal ≡ OutOfMemory) × (after ≡ m) × (all ≡ sent)

@@ -26,7 +26,8 @@ impl<A: App> Outbox<A> {
         slot: Slot,
         batch: &Batch<A::Args>,
     ) -> Result<Given<Batch<A::Args>>, Fault>
-        ensures did { MemberSent true result (cases.propose member.old.me slot batch.now member.old.replica) config.now.replicas config.now.partitions me member.old member.new self.old.packets self.new.packets }
+        ensures did { MemberSent true result (cases.propose member.old.me slot batch.now member.old.replica)
+            config.now.replicas config.now.partitions me member.old member.new self.old.packets self.new.packets }
     {
         let mail = member.prepare_to_all(slot)?;
         let batch = batch.copy()?;
@@ -52,7 +53,9 @@ impl<A: App> Outbox<A> {
         from: u8,
         message: &Message<Batch<A::Args>>,
     ) -> Result<Given<Batch<A::Args>>, Fault>
-        ensures did { MemberSent (message_grows message.now) result (cases.handle member.old.size from message.now member.old.replica) config.now.replicas config.now.partitions me member.old member.new self.old.packets self.new.packets }
+        ensures did { MemberSent (message_grows message.now)
+            result (cases.handle member.old.size from message.now member.old.replica)
+            config.now.replicas config.now.partitions me member.old member.new self.old.packets self.new.packets }
     {
         if let Message::Accepted {
             slot,
@@ -77,7 +80,9 @@ impl<A: App> Outbox<A> {
         message: &Message<Batch<A::Args>>,
     ) -> Result<Given<Batch<A::Args>>, Fault>
         requires { given_by (cases.handle member.old.size from message.now member.old.replica) ≡ None }
-        ensures did { MemberSent (message_grows message.now) result (cases.handle member.old.size from message.now member.old.replica) config.now.replicas config.now.partitions me member.old member.new self.old.packets self.new.packets }
+        ensures did { MemberSent (message_grows message.now)
+            result (cases.handle member.old.size from message.now member.old.replica)
+            config.now.replicas config.now.partitions me member.old member.new self.old.packets self.new.packets }
     {
         let answer = member.answer(from, message)?;
         let message = message.copy()?;
@@ -107,7 +112,8 @@ impl<A: App> Outbox<A> {
         requires vote { vote.now ≡ Accepted slot ballot batch.now }
         requires new { knows member.old.replica.learner from slot ballot ≡ false }
         requires last { completes member.old.size member.old.replica.learner slot ballot ≡ true }
-        ensures did { MemberSent true result (cases.accepted member.old.size from member.old.replica slot ballot batch.now) config.now.replicas config.now.partitions me member.old member.new self.old.packets self.new.packets }
+        ensures did { MemberSent true result (cases.accepted member.old.size from member.old.replica slot ballot batch.now)
+            config.now.replicas config.now.partitions me member.old member.new self.old.packets self.new.packets }
     {
         let vote = vote.copy()?;
         let sent = self.len();

@@ -49,7 +49,9 @@ impl<A: App> Outbox<A> {
     /// Takes the packet of a number out, for who handles it: until it is put back another one stands in its place. There is none
     /// where no packet has the number, and then nothing changed.
     pub fn lend(&mut self, number: usize) -> Option<Packet<A::Args, A::Row, A::Reply>>
-        ensures { MatchOption result ((slice_get self.old.packets number ≡ None) × (self.new.packets ≡ self.old.packets)) (λ packet. (slice_get self.old.packets number ≡ Some packet) × (other : Packet A.Args A.Row A.Reply) × (self.new.packets ≡ slice_set self.old.packets number other)) }
+        ensures { MatchOption result ((slice_get self.old.packets number ≡ None)
+            × (self.new.packets ≡ self.old.packets)) (λ packet. (slice_get self.old.packets number ≡ Some packet)
+            × (other : Packet A.Args A.Row A.Reply) × (self.new.packets ≡ slice_set self.old.packets number other)) }
     {
         if number >= self.packets.len() {
             return None;

@@ -67,7 +67,8 @@ impl<A: App> SequencingLayer<A> {
         outbox: &mut Outbox<A>,
     ) -> Result<(), Fault>
         requires { given_by (cases.handle self.old.config.replicas from message.now self.old.synod) ≡ None }
-        ensures did { LayerDid (message_grows message.now) result (λ n. handling.by_synod n.config n.state (cases.handle n.config.replicas from message.now n.state.synod)) self.old self.new outbox.old.packets outbox.new.packets }
+        ensures did { LayerDid (message_grows message.now) result (λ n. handling.by_synod n.config n.state
+            (cases.handle n.config.replicas from message.now n.state.synod)) self.old self.new outbox.old.packets outbox.new.packets }
         ensures of { IsOf self.old self.new }
     {
         let _none = outbox.post_answer(&mut self.member, &self.config, self.id, from, message)?;
@@ -85,7 +86,8 @@ impl<A: App> SequencingLayer<A> {
         outbox: &mut Outbox<A>,
     ) -> Result<(), Fault>
         requires { vote.now ≡ Accepted slot ballot batch.now }
-        ensures did { LayerDid true result (λ n. handling.on_vote n.config from (Accepted slot ballot batch.now) n.state (map.get n.state.held slot)) self.old self.new outbox.old.packets outbox.new.packets }
+        ensures did { LayerDid true result (λ n. handling.on_vote n.config from (Accepted slot ballot batch.now) n.state (map.get n.state.held slot))
+            self.old self.new outbox.old.packets outbox.new.packets }
         ensures of { IsOf self.old self.new }
     {
         if self.merge.held(slot).is_some() {
@@ -111,7 +113,8 @@ impl<A: App> SequencingLayer<A> {
         requires free { map.get self.old.held slot ≡ None }
         requires new { knows self.old.synod.learner from slot ballot ≡ false }
         requires last { completes self.old.config.replicas self.old.synod.learner slot ballot ≡ true }
-        ensures did { LayerDid true result (λ n. handling.by_synod n.config n.state (cases.accepted n.config.replicas from n.state.synod slot ballot batch.now)) self.old self.new outbox.old.packets outbox.new.packets }
+        ensures did { LayerDid true result (λ n. handling.by_synod n.config n.state
+            (cases.accepted n.config.replicas from n.state.synod slot ballot batch.now)) self.old self.new outbox.old.packets outbox.new.packets }
         ensures of { IsOf self.old self.new }
     {
         let decided = batch.copy()?;

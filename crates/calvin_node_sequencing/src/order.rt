@@ -24,7 +24,8 @@ impl<A: App> SequencingLayer<A> {
         ensures merged { IfOk result (λ v. v.items ≡ merged self.now.config (batch_at self.now.held) self.now.merged_epochs) }
         ensures complete { OnOk result (HoldsAll self.now.held self.now.merged_epochs self.now.config.partitions) }
         ensures not_complete { IsErrOf result Fault.NotComplete ↔ ¬ HoldsAll self.now.held self.now.merged_epochs self.now.config.partitions }
-        ensures only { IfErr result (λ fault. (fault ≡ Fault.NotComplete) ⊎ ((fault ≡ Fault.OutOfMemory) × (0 < length (joined (batch_at self.now.held) self.now.merged_epochs self.now.config.partitions)))) }
+        ensures only { IfErr result (λ fault. (fault ≡ Fault.NotComplete)
+            ⊎ ((fault ≡ Fault.OutOfMemory) × (0 < length (joined (batch_at self.now.held) self.now.merged_epochs self.now.config.partitions)))) }
     {
         self.merge.next_requests()
     }

@@ -75,7 +75,9 @@ module _ {Row Reply : Type 0} (top : ℕ) where
   find-inner q [] h = sym (none_either (nat_le q.table top))
   find-inner q ((k, kept.Row r) ∷ es) h =
       let rest = find-inner q es (T-second (below_all key_cmp k es) _ h) in
-      elim (nat_le k.table top) as (λ b. nat_le k.table top ≡ b → find key_cmp q ((if b then (k, r) ∷ [] else []) ++ inner_entries top es) ≡ picked q (cond (same_key q k) (Some (kept.Row r)) (find key_cmp q es))) [
+      elim (nat_le k.table top) as (λ b. nat_le k.table top ≡ b
+      → find key_cmp q ((if b then (k, r) ∷ [] else []) ++ inner_entries top es) ≡ picked q
+      (cond (same_key q k) (Some (kept.Row r)) (find key_cmp q es))) [
         | true ↦ λ is. elim (same_key q k) as (λ c. same_key q k ≡ c → cond c (Some r) (find key_cmp q (inner_entries top es)) ≡ picked q (cond c (Some (kept.Row r)) (find key_cmp q es))) [
           | true ↦ λ same. sym (ap (λ b. if b then Some r else None) (ap (λ (x : Key). nat_le x.table top) (one_key q k same) ∙ is))
           | false ↦ λ same. rest
@@ -135,18 +137,25 @@ one_more most top id ks few low h = record {
   tables = tables-insert_key (min (top + 1) 255) (kept_key top id) ks (omega (arith, low)) (tables-more top (min (top + 1) 255) ks (omega (arith, low)) h.tables);
 }
 
-pub keys-kept : {Row Reply : Type 0} (key : Key) (reply : Reply) (ws : List (Key × Row)) → map (λ (w : Key × OnceRow Row Reply). w.0) (map (λ w. (w.0, kept.Row w.1)) ws ++ (key, kept.Reply reply) ∷ []) ≡ map (λ w. w.0) ws ++ key ∷ []
+pub keys-kept : {Row Reply : Type 0} (key : Key) (reply : Reply) (ws : List (Key × Row))
+    → map (λ (w : Key × OnceRow Row Reply). w.0) (map (λ w. (w.0, kept.Row w.1)) ws ++ (key, kept.Reply reply) ∷ []) ≡ map (λ w. w.0) ws ++ key ∷ []
 keys-kept key reply [] = refl
 keys-kept key reply (w ∷ ws) = ap (λ ks. w.0 ∷ ks) (keys-kept key reply ws)
 
 module _ {Args Row Reply : Type 0} (m : Meaning Args Row Reply) (dependent : Args → Bool) (most top : ℕ) (lawful : IsLawful m dependent most top) where
   follow : (a : Named Args) (rows : Rows (OnceRow Row Reply)) → (once m most top).needs a (view rows ((once m most top).needs a rows).reads) ≡ (once m most top).needs a rows
-  follow a rows = elim (is_narrow most top) as (λ b. (if b then with_key (kept_key top a.id) (m.needs a.args (inside top (view rows ((λ (s : Sets). s.reads) (if b then with_key (kept_key top a.id) (m.needs a.args (inside top rows)) else record { reads = []; writes = [] }))))) else record { reads = []; writes = [] }) ≡ (if b then with_key (kept_key top a.id) (m.needs a.args (inside top rows)) else record { reads = []; writes = [] })) [
-    | true ↦ ap (with_key (kept_key top a.id)) (ap (m.needs a.args) (inside-view top rows a.id (m.needs a.args (inside top rows)).reads) ∙ lawful.sets_follow_from_their_reads a.args (inside top rows))
-    | false ↦ refl
-  ]
+  follow a rows = elim (is_narrow most top) as (λ b.
+      (if b then with_key (kept_key top a.id) (m.needs a.args
+      (inside top (view rows ((λ (s : Sets). s.reads)
+      (if b then with_key (kept_key top a.id) (m.needs a.args (inside top rows)) else record { reads = []; writes = [] })))))
+      else record { reads = []; writes = [] }) ≡ (if b then with_key (kept_key top a.id) (m.needs a.args (inside top rows))
+      else record { reads = []; writes = [] })) [
+        | true ↦ ap (with_key (kept_key top a.id)) (ap (m.needs a.args) (inside-view top rows a.id (m.needs a.args (inside top rows)).reads) ∙ lawful.sets_follow_from_their_reads a.args (inside top rows))
+        | false ↦ refl
+      ]
 
-  bounded : (a : Named Args) (v : Rows (OnceRow Row Reply)) → IsBounded (min (most + 1) 16) (min (top + 1) 255) ((once m most top).needs a v).reads × IsBounded (min (most + 1) 16) (min (top + 1) 255) ((once m most top).needs a v).writes
+  bounded : (a : Named Args) (v : Rows (OnceRow Row Reply)) → IsBounded (min (most + 1) 16) (min (top + 1) 255) ((once m most top).needs a v).reads
+      × IsBounded (min (most + 1) 16) (min (top + 1) 255) ((once m most top).needs a v).writes
   bounded a v = go (is_narrow most top) refl where
     go : (b : Bool) → is_narrow most top ≡ b
         → IsBounded (min (most + 1) 16) (min (top + 1) 255) ((λ (s : Sets). s.reads) (if b then with_key (kept_key top a.id) (m.needs a.args (inside top v)) else record { reads = []; writes = [] }))
@@ -162,14 +171,22 @@ module _ {Args Row Reply : Type 0} (m : Meaning Args Row Reply) (dependent : Arg
     done : Reply × List (Key × Row)
     done = m.outcome a.args (inside top v)
 
-    told : (o : Option Reply) → has (map (λ w. w.0) (once_outcome (kept_key top a.id) o (m.outcome a.args (inside top v))).1) k ≡ true → has (insert_key (kept_key top a.id) (m.needs a.args (inside top v)).writes) k ≡ true
+    told : (o : Option Reply) → has (map (λ w. w.0) (once_outcome (kept_key top a.id) o (m.outcome a.args (inside top v))).1) k ≡ true
+        → has (insert_key (kept_key top a.id) (m.needs a.args (inside top v)).writes) k ≡ true
     told (Some r) h = absurd (false≢true h)
-    told None h = has-insert_key k (kept_key top a.id) (m.needs a.args (inside top v)).writes ∙ split (same_key k (kept_key top a.id)) (sym (has-push (map (λ w. w.0) (m.outcome a.args (inside top v)).1) (kept_key top a.id) k) ∙ sym (ap (λ ks. has ks k) (keys-kept (kept_key top a.id) (m.outcome a.args (inside top v)).0 (m.outcome a.args (inside top v)).1)) ∙ h) where
-      split : (b : Bool) → (has (map (λ w. w.0) (m.outcome a.args (inside top v)).1) k || b) ≡ true → (b || has (m.needs a.args (inside top v)).writes k) ≡ true
-      split true h = refl
-      split false h = lawful.writes_within_the_sets a.args (inside top v) k (sym (or-false _) ∙ h)
+    told None h = has-insert_key k (kept_key top a.id) (m.needs a.args (inside top v)).writes
+        ∙ split (same_key k (kept_key top a.id)) (sym (has-push (map (λ w. w.0) (m.outcome a.args (inside top v)).1) (kept_key top a.id) k)
+        ∙ sym (ap (λ ks. has ks k) (keys-kept (kept_key top a.id) (m.outcome a.args (inside top v)).0 (m.outcome a.args (inside top v)).1)) ∙ h) where
+          split : (b : Bool) → (has (map (λ w. w.0) (m.outcome a.args (inside top v)).1) k || b) ≡ true → (b || has (m.needs a.args (inside top v)).writes k) ≡ true
+          split true h = refl
+          split false h = lawful.writes_within_the_sets a.args (inside top v) k (sym (or-false _) ∙ h)
 
-    go : (b : Bool) → has (map (λ w. w.0) ((λ (o : Reply × List (Key × OnceRow Row Reply)). o.1) (if b then once_outcome (kept_key top a.id) (kept_at top v a.id) (m.outcome a.args (inside top v)) else ((m.outcome a.args finmap.empty).0, [])))) k ≡ true → has ((λ (s : Sets). s.writes) (if b then with_key (kept_key top a.id) (m.needs a.args (inside top v)) else record { reads = []; writes = [] })) k ≡ true
+    go : (b : Bool) → has (map (λ w. w.0)
+        ((λ (o : Reply × List (Key × OnceRow Row Reply)). o.1)
+        (if b then once_outcome (kept_key top a.id) (kept_at top v a.id) (m.outcome a.args (inside top v))
+        else ((m.outcome a.args finmap.empty).0, [])))) k ≡ true
+        → has ((λ (s : Sets). s.writes) (if b then with_key (kept_key top a.id) (m.needs a.args (inside top v))
+        else record { reads = []; writes = [] })) k ≡ true
     go true h = told (kept_at top v a.id) h
     go false h = absurd (false≢true h)
 
@@ -177,7 +194,8 @@ module _ {Args Row Reply : Type 0} (m : Meaning Args Row Reply) (dependent : Arg
   once_lawful = record {
     writes_within_the_sets = λ a v k h. within a v k h;
     sets_follow_from_their_reads = λ a rows. follow a rows;
-    independent_sets_are_fixed = λ a v w h. ap (λ s. if is_narrow most top then with_key (kept_key top a.id) s else record { reads = []; writes = [] }) (lawful.independent_sets_are_fixed a.args (inside top v) (inside top w) h);
+    independent_sets_are_fixed = λ a v w h. ap (λ s. if is_narrow most top then with_key (kept_key top a.id) s
+        else record { reads = []; writes = [] }) (lawful.independent_sets_are_fixed a.args (inside top v) (inside top w) h);
     bounded_reads = λ a v. (bounded a v).0;
     bounded_writes = λ a v. (bounded a v).1;
     at_most_sixteen = omega arith;
@@ -192,9 +210,15 @@ inside-none Row Reply top = finmap.same_map key_cmp_total key_cmp_exact _ _ (λ 
     ∙ sym (finmap.get-empty key_cmp q))
 
 pub once_settles : {Args Row Reply : Type 0} (m : Meaning Args Row Reply) (most top : ℕ) → SettlesAtOnce m → SettlesAtOnce (once m most top)
-once_settles {Args} {Row} {Reply} m most top settles a rows = elim (is_narrow most top) as (λ b. (if b then with_key (kept_key top a.id) (m.needs a.args (inside top (view rows ((λ (s : Sets). s.reads) (if b then with_key (kept_key top a.id) (m.needs a.args (inside {Reply = Reply} top finmap.empty)) else record { reads = []; writes = [] }))))) else record { reads = []; writes = [] }) ≡ (if b then with_key (kept_key top a.id) (m.needs a.args (inside top rows)) else record { reads = []; writes = [] })) [
-  | true ↦ ap (with_key (kept_key top a.id))
-      (ap (m.needs a.args) (inside-view top rows a.id (m.needs a.args (inside {Reply = Reply} top finmap.empty)).reads ∙ ap (λ v. view (inside top rows) (m.needs a.args v).reads) (inside-none Row Reply top))
-      ∙ settles a.args (inside top rows))
-  | false ↦ refl
-]
+once_settles {Args} {Row} {Reply} m most top settles a rows = elim (is_narrow most top) as
+    (λ b. (if b then with_key (kept_key top a.id) (m.needs a.args
+    (inside top (view rows ((λ (s : Sets). s.reads)
+    (if b then with_key (kept_key top a.id) (m.needs a.args (inside {Reply = Reply} top finmap.empty)) else record { reads = []; writes = [] })))))
+    else record { reads = []; writes = [] }) ≡ (if b then with_key (kept_key top a.id) (m.needs a.args (inside top rows))
+    else record { reads = []; writes = [] })) [
+      | true ↦ ap (with_key (kept_key top a.id))
+          (ap (m.needs a.args) (inside-view top rows a.id (m.needs a.args (inside {Reply = Reply} top finmap.empty)).reads
+          ∙ ap (λ v. view (inside top rows) (m.needs a.args v).reads) (inside-none Row Reply top))
+          ∙ settles a.args (inside top rows))
+      | false ↦ refl
+    ]

@@ -59,7 +59,8 @@ impl<A: Keepable> Once<A> {
     /// declared sets. Refused with `TooManyKeys` where that key would be the seventeenth of a set.
     pub fn wrap(&self, txn: Txn<A::Args>) -> Result<Txn<Named<A::Args>>, Fault>
         ensures ok { IfOk result (λ named. named ≡ wrapped A.table_limit txn) }
-        ensures full { IsErr result ↔ ((MOST_KEYS < length (insert_key (kept_key A.table_limit txn.id) txn.sets.reads)) ⊎ (MOST_KEYS < length (insert_key (kept_key A.table_limit txn.id) txn.sets.writes))) }
+        ensures full { IsErr result ↔ ((MOST_KEYS < length (insert_key (kept_key A.table_limit txn.id) txn.sets.reads))
+            ⊎ (MOST_KEYS < length (insert_key (kept_key A.table_limit txn.id) txn.sets.writes))) }
         ensures only { IsOkUnless result Fault.TooManyKeys }
     {
         let key = self.kept_key(txn.id);

@@ -92,7 +92,10 @@ impl<Args: Copy> History<Args> {
     /// Whether an epoch is known as decided.
     pub fn is_decided(&self, epoch: u64) -> bool
         ensures decided { result ≡ is_decided self.now.state epoch }
-        ensures settles { result ≡ false → undecided (λ e. list_any (nat_eq e) (self.now.state.decided ++ epoch ∷ [])) self.now.state.closed + closed_len self.now.state.closed epoch ≡ undecided (is_decided self.now.state) self.now.state.closed }
+        ensures settles { result ≡ false
+            → undecided (λ e. list_any (nat_eq e) (self.now.state.decided
+            ++ epoch ∷ [])) self.now.state.closed + closed_len self.now.state.closed epoch ≡ undecided
+            (is_decided self.now.state) self.now.state.closed }
     {
         self.decided.contains(&epoch)
     }

@@ -28,12 +28,16 @@ pub fn told_is_serial<A: App>()
         → reply_lines show (first_epochs n (entries (replied v.packets))) ≡ lines show (order v.config B n) (serial A.meaning (map (λ e. e.1) (order v.config B n)) empty).1 }
     ensures finished { (c : Config) (events : List (Event A.Args)) (outcomes : List Outcome) (v : WorldState A.Args A.Row A.Reply) → SettledLeads A.meaning (opening c) events outcomes v
         → (B : Assignment A.Args) → IsChosenUpTo v B (epochs_upto (least_standing v)) → (show : A.Reply → List ℕ)
-        → reply_lines show (of_epochs (UpTo (least_standing v)) (entries (replied v.packets))) ≡ lines show (order v.config B (epochs_upto (least_standing v))) (serial A.meaning (map (λ e. e.1) (order v.config B (epochs_upto (least_standing v)))) empty).1 }
+        → reply_lines show (of_epochs (UpTo (least_standing v)) (entries (replied v.packets))) ≡ lines show
+        (order v.config B (epochs_upto (least_standing v)))
+        (serial A.meaning (map (λ e. e.1) (order v.config B (epochs_upto (least_standing v)))) empty).1 }
     ensures chosen { (c : Config) (events : List (Event A.Args)) (outcomes : List Outcome) (v : WorldState A.Args A.Row A.Reply) → SettledLeads A.meaning (opening c) events outcomes v
         → (B : Assignment A.Args) × IsChosenUpTo v B (epochs_upto (least_standing v)) }
     ensures kept { (c : Config) (events : List (Event A.Args)) (outcomes : List Outcome) (v : WorldState A.Args A.Row A.Reply) → SettledLeads A.meaning (opening c) events outcomes v
         → (lost : ℕ → Bool) (B : Assignment A.Args) → IsChosenUpTo v B (epochs_upto (least_kept lost v)) → (show : A.Reply → List ℕ)
-        → reply_lines show (of_epochs (UpTo (least_kept lost v)) (entries (replied v.packets))) ≡ lines show (order v.config B (epochs_upto (least_kept lost v))) (serial A.meaning (map (λ e. e.1) (order v.config B (epochs_upto (least_kept lost v)))) empty).1 }
+        → reply_lines show (of_epochs (UpTo (least_kept lost v)) (entries (replied v.packets))) ≡ lines show
+        (order v.config B (epochs_upto (least_kept lost v)))
+        (serial A.meaning (map (λ e. e.1) (order v.config B (epochs_upto (least_kept lost v)))) empty).1 }
     ensures kept_chosen { (c : Config) (events : List (Event A.Args)) (outcomes : List Outcome) (v : WorldState A.Args A.Row A.Reply) → SettledLeads A.meaning (opening c) events outcomes v
         → (lost : ℕ → Bool) → (B : Assignment A.Args) × IsChosenUpTo v B (epochs_upto (least_kept lost v)) }
     ensures last { (last : Option ℕ) → finished_at last ≡ finished (epochs_upto last) }

@@ -42,7 +42,8 @@ module _ {Args Row Reply : Type 0} (m : Meaning Args Row Reply) (c : Config) (be
 
 -- ---- what is told
 
-pub record IsRan {Args Row Reply : Type 0} (m : Meaning Args Row Reply) (grammar : Grammar Args) (show : Reply → List ℕ) (replicas : ℕ) (wide : Bool) (bytes : List ℕ) (log : Log Args) (text : List ℕ) : Type 0 where
+pub record IsRan {Args Row Reply : Type 0} (m : Meaning Args Row Reply) (grammar : Grammar Args) (show : Reply
+    → List ℕ) (replicas : ℕ) (wide : Bool) (bytes : List ℕ) (log : Log Args) (text : List ℕ) : Type 0 where
   pub script : Contents Args
   pub read : script_from grammar bytes ≡ Ok script
   pub opened : log.config ≡ store_config script.partitions replicas 0 script.woven_from

@@ -35,7 +35,8 @@ fn submit_batch<A: App + Drop, L: Locks + Drop, S: Rows<A::Row> + Drop>(
 where
     A::Args: Operation,
     ensures ok { OnOk result (IsGrown A.meaning book.old (submitting group requests.now) book.new) }
-    ensures only { (n e : ℕ) → IsOpen (world_after A.meaning book.old.config book.old.events) group n e → are_taken requests.now ≡ true → n + length requests.now ≤ MOST_UNDECIDED → e < MOST_EPOCHS → IsOkUnless result Fault.OutOfMemory }
+    ensures only { (n e : ℕ) → IsOpen (world_after A.meaning book.old.config book.old.events) group n e → are_taken requests.now ≡ true
+        → n + length requests.now ≤ MOST_UNDECIDED → e < MOST_EPOCHS → IsOkUnless result Fault.OutOfMemory }
 {
     let id = sequencer_of(group);
     for request in requests {
@@ -53,7 +54,8 @@ fn submit_epoch<A: App + Drop, L: Locks + Drop, S: Rows<A::Row> + Drop>(
 where
     A::Args: Operation,
     ensures ok { OnOk result (IsGrown A.meaning book.old (submitting_epoch partitions (all_listed epoch.now)) book.new) }
-    ensures only { (n : ℕ → ℕ) (e : ℕ) → AreOpen (world_after A.meaning book.old.config book.old.events) partitions n e → ((g : ℕ) → g < partitions → are_taken (requests_of g (all_listed epoch.now)) ≡ true)
+    ensures only { (n : ℕ → ℕ) (e : ℕ) → AreOpen (world_after A.meaning book.old.config book.old.events) partitions n e
+        → ((g : ℕ) → g < partitions → are_taken (requests_of g (all_listed epoch.now)) ≡ true)
         → ((g : ℕ) → g < partitions → n g + length (requests_of g (all_listed epoch.now)) ≤ MOST_UNDECIDED) → e < MOST_EPOCHS → IsOkUnless result Fault.OutOfMemory }
 {
     for group in 0..partitions {

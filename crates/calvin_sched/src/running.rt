@@ -44,7 +44,8 @@ impl<A: App, L: Locks + Drop, S: Rows<A::Row> + Drop> Scheduler<A, L, S> {
     /// is done. Refused with `OutOfMemory` where more is written here than there is room for, and a growth was refused.
     pub(crate) fn apply(&mut self, place: Place, writes: &Writes<A::Row>) -> Result<(), Fault>
         requires { (j : Job A.Args A.Row) × (steps.job self.old.here place self.old.scheduling ≡ Ok j) × (writes.now ≡ local_writes self.old.here (writes_on A.meaning j.txn j.view)) }
-        ensures ok { OnOk result ((j : Job A.Args A.Row) → steps.job self.old.here place self.old.scheduling ≡ Ok j → self.new.scheduling ≡ steps.after_job A.meaning self.old.here j self.old.scheduling) }
+        ensures ok { OnOk result ((j : Job A.Args A.Row) → steps.job self.old.here place self.old.scheduling ≡ Ok j
+            → self.new.scheduling ≡ steps.after_job A.meaning self.old.here j self.old.scheduling) }
         ensures err { OnErr result (self.new.scheduling ≡ self.old.scheduling) }
         ensures room { OnErr result (self.old.room ≤ self.new.room) }
         ensures only { IsOkUnless result Fault.OutOfMemory }

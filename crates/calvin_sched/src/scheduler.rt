@@ -82,7 +82,15 @@ impl<A: App, L: Locks + Drop, S: Rows<A::Row> + Drop> Scheduler<A, L, S> {
         snapshot: &Snapshot<A::Row>,
         epoch: u64,
     ) -> Result<Scheduler<A, L, S>, Fault>
-        ensures ok { IfOk result (λ s. s ≡ record { here = site config.now.partitions partition; scheduling = opened (end_of (epoch + 1)) snapshot.now; room = s.room; merged = epoch + 1; due = []; due_room = 0 }) }
+        ensures ok { IfOk result
+            (λ s. s ≡ record {
+              here = site config.now.partitions partition;
+              scheduling = opened (end_of (epoch + 1)) snapshot.now;
+              room = s.room;
+              merged = epoch + 1;
+              due = [];
+              due_room = 0;
+            }) }
         ensures only { IsOkUnless result Fault.OutOfMemory }
     {
         let mut rows = S::empty(alloc);
@@ -99,7 +107,14 @@ impl<A: App, L: Locks + Drop, S: Rows<A::Row> + Drop> Scheduler<A, L, S> {
         epochs: u128,
     ) -> Scheduler<A, L, S>
         requires { epochs ≤ 2 ^ 64 }
-        ensures { result ≡ record { here = site config.now.partitions partition; scheduling = record (opened (end_of epochs) map.empty) { store = S.store rows }; room = S.room rows; merged = epochs; due = []; due_room = 0 } }
+        ensures { result ≡ record {
+          here = site config.now.partitions partition;
+          scheduling = record (opened (end_of epochs) map.empty) { store = S.store rows };
+          room = S.room rows;
+          merged = epochs;
+          due = [];
+          due_room = 0;
+        } }
     {
         Scheduler {
             alloc,
@@ -244,7 +259,8 @@ impl<A: App, L: Locks + Drop, S: Rows<A::Row> + Drop> Scheduler<A, L, S> {
 
     /// The request that is to be run at a place. Refused as `job` is.
     pub(crate) fn due(&self, place: Place) -> Result<&Turn<A>, Fault>
-        ensures ok { IfOk result (λ turn. steps.job self.now.here place self.now.scheduling ≡ Ok (record { place = place; txn = turn.now.turn.request; view = whole_view self.now.here turn.now.turn })) }
+        ensures ok { IfOk result (λ turn. steps.job self.now.here place self.now.scheduling ≡ Ok
+            (record { place = place; txn = turn.now.turn.request; view = whole_view self.now.here turn.now.turn })) }
         ensures refused { IfErr result (λ fault. steps.job self.now.here place self.now.scheduling ≡ Err fault) }
     {
         let Some(turn) = self.turn(place) else {

@@ -109,7 +109,8 @@ impl<A: App, L: Locks + Drop, S: Rows<A::Row> + Drop> Scheduler<A, L, S> {
     /// The rows of the keys of these sets come back from the cold table, where they are there. Refused with `OutOfMemory`
     /// where the keeper of rows has a cold table, one of these keys has its row there, and a growth was refused.
     pub fn warm(&mut self, sets: &Sets) -> Result<(), Fault>
-        ensures did { Did (warm_grows S.cold (sets.now.reads ++ sets.now.writes) self.old.scheduling.store) result (Does (standing.warm (sets.now.reads ++ sets.now.writes) self.old.scheduling) tt) self.old.scheduling self.new.scheduling }
+        ensures did { Did (warm_grows S.cold (sets.now.reads ++ sets.now.writes) self.old.scheduling.store)
+            result (Does (standing.warm (sets.now.reads ++ sets.now.writes) self.old.scheduling) tt) self.old.scheduling self.new.scheduling }
         ensures rest { self.new ≡ record self.old { scheduling = self.new.scheduling; room = self.new.room } }
         ensures room { self.old.room ≤ self.new.room }
     {

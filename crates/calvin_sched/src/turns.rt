@@ -127,7 +127,11 @@ impl<A: App> Turns<A> {
     /// The request at a place, if there is one, begins.
     pub fn begin<S: Rows<A::Row>>(&mut self, place: Place, config: &Config, partition: u8, rows: &S)
         ensures none { map.get self.old.kept place ≡ None → self.new ≡ self.old }
-        ensures some { ForSome (map.get self.old.kept place) (λ k. self.new ≡ record self.old { kept = map.insert self.old.kept place (record { turn = begun_turn (site config.now.partitions partition) (S.store rows.now).map k.turn; room = k.room }) }) }
+        ensures some { ForSome (map.get self.old.kept place)
+            (λ k. self.new ≡ record self.old {
+              kept = map.insert self.old.kept place
+                  (record { turn = begun_turn (site config.now.partitions partition) (S.store rows.now).map k.turn; room = k.room });
+            }) }
     {
         let Some(number) = number_of(&self.turns, place, self.near) else {
             return;
@@ -140,7 +144,8 @@ impl<A: App> Turns<A> {
     /// Keeps rows of another partition for the request at a place, which is there and has room for them.
     pub fn receive(&mut self, place: Place, from: u8, rows: &View<A::Row>)
         requires { ForSome (map.get self.old.kept place) (λ k. 0 < k.room) }
-        ensures { ForSome (map.get self.old.kept place) (λ k. self.new ≡ record self.old { kept = map.insert self.old.kept place (record { turn = with_rows from rows.now k.turn; room = k.room - 1 }) }) }
+        ensures { ForSome (map.get self.old.kept place) (λ k. self.new ≡ record
+            self.old { kept = map.insert self.old.kept place (record { turn = with_rows from rows.now k.turn; room = k.room - 1 }) }) }
     {
         let Some(number) = number_of(&self.turns, place, self.near) else {
             return;

@@ -25,7 +25,8 @@ pub record Sitting (Args Row : Type 0) : Type 0 where
   pub count : ℕ
   pub waits : Bool
 
-module _ {Args Row Reply : Type 0} (m : Meaning Args Row Reply) (show : Reply → List ℕ) (grammar : Grammar Args) (old : Standing Row) (out : Option (List ℕ)) (lines : List (Result (Asked Args) Fault)) where
+module _ {Args Row Reply : Type 0} (m : Meaning Args Row Reply) (show : Reply
+    → List ℕ) (grammar : Grammar Args) (old : Standing Row) (out : Option (List ℕ)) (lines : List (Result (Asked Args) Fault)) where
   pub record Follows (now : Sitting Args Row) (out_now : Option (List ℕ)) : Type 0 where
     pub turns : List (Turn Args)
     pub asked : List (Asked Args)

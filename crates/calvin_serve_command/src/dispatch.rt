@@ -61,7 +61,8 @@ where
     // What is asked for is done, where the status is 0, and no device failed; else standard error is told why, and the device failed
     // that is told.
     ensures serve { IsTaken (map W.text words.now) → (asked : TheOrder) → IsAsked (map W.text words.now) asked → (order : TheOrder) × IsAsked (map W.text words.now) order
-        × Ends order (J.found journals.old) (J.found journals.new) (S.left input.old) (K.taken output.old) (K.taken output.new) (E.taken error.old) (E.taken error.new) (E.failures error.old) (E.failures error.new)
+        × Ends order (J.found journals.old) (J.found journals.new) (S.left input.old) (K.taken output.old) (K.taken output.new) (E.taken error.old)
+        (E.taken error.new) (E.failures error.old) (E.failures error.new)
         (S.failures input.old) (S.failures input.new) (K.failures output.old) (K.failures output.new) result }
     // A line that clap refuses, and one that asks for help, read nothing and open no journal.
     ensures idle { ¬ IsTaken (map W.text words.now) → (input.new ≡ input.old) × (journals.new ≡ journals.old) }

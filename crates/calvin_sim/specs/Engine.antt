@@ -45,7 +45,8 @@ sim_script bytes = if nat_lt MOST_BYTES (length bytes) then Err ScriptTooLong el
 
 -- ---- what is told
 
-pub record IsRun {Args Row Reply : Type 0} (m : Meaning Args Row Reply) (grammar : Grammar Args) (show : Reply → List ℕ) (schedule : Schedule) (bytes : List ℕ) (w : WorldState Args Row Reply) (text : List ℕ) : Type 0 where
+pub record IsRun {Args Row Reply : Type 0} (m : Meaning Args Row Reply) (grammar : Grammar Args) (show : Reply
+    → List ℕ) (schedule : Schedule) (bytes : List ℕ) (w : WorldState Args Row Reply) (text : List ℕ) : Type 0 where
   pub script : Contents Args
   pub read : script_from grammar bytes ≡ Ok script
   pub simulation : IsSimulation m schedule script w

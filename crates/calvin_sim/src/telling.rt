@@ -28,7 +28,9 @@ fn text_of<A: App + Drop>(
 ) -> Result<Vec<u8>, Fault>
 where
     A::Reply: Printed,
-    ensures text { IfOk result (λ text. text.items ≡ reply_lines A.Reply.printed (of_epochs (UpTo (least_kept (is_lost lost) world.now)) (entries (replied world.now.packets))) ++ finished_at (least_kept (is_lost lost) world.now)) }
+    ensures text { IfOk result (λ text. text.items ≡ reply_lines A.Reply.printed
+        (of_epochs (UpTo (least_kept (is_lost lost) world.now)) (entries (replied world.now.packets)))
+        ++ finished_at (least_kept (is_lost lost) world.now)) }
     ensures only { IsOkUnless result Fault.OutOfMemory }
 {
     let last = finished_but(world, lost);

@@ -61,7 +61,8 @@ module _ {Args Row Reply : Type 0} (m : Meaning Args Row Reply) where
   LeadsLosing lost w [] [] v = v ≡ w
   LeadsLosing lost w [] (outcome ∷ outcomes) v = ⊥
   LeadsLosing lost w (event ∷ events) [] v = ⊥
-  LeadsLosing lost w (event ∷ events) (outcome ∷ outcomes) v = (next : WorldState Args Row Reply) × SettledStep m w event outcome next × (is_lossy lost w.packets event ≡ false) × LeadsLosing lost next events outcomes v
+  LeadsLosing lost w (event ∷ events) (outcome ∷ outcomes) v = (next : WorldState Args Row Reply) × SettledStep m w event outcome next
+      × (is_lossy lost w.packets event ≡ false) × LeadsLosing lost next events outcomes v
 
 module _ {Args Row Reply : Type 0} (m : Meaning Args Row Reply) (restarts : Restarts) (lost : ℕ → Bool) where
   pub record LeadsQuietly (w v : WorldState Args Row Reply) : Type 0 where

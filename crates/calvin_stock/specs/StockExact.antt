@@ -37,8 +37,11 @@ true_once : (b : Bool) → IsProp (IsTrue b)
 true_once b = hlevel props
 
 -- orders of the same lines are the same
-same_lines : (c o : ℕ) (ls ms : List Line) → ls ≡ ms → (p : IsTrue (are_lines ls)) → (q : IsTrue (are_lines ms)) → ◌≡◌ {A = Order} (record { customer = c; number = o; lines = ls; in_range = p }) (record { customer = c; number = o; lines = ms; in_range = q })
-same_lines c o ls ms e p = subst (λ (ns : List Line). (q : IsTrue (are_lines ns)) → ◌≡◌ {A = Order} (record { customer = c; number = o; lines = ls; in_range = p }) (record { customer = c; number = o; lines = ns; in_range = q })) e
+same_lines : (c o : ℕ) (ls ms : List Line) → ls ≡ ms → (p : IsTrue (are_lines ls)) → (q : IsTrue (are_lines ms))
+    → ◌≡◌ {A = Order} (record { customer = c; number = o; lines = ls; in_range = p }) (record { customer = c; number = o; lines = ms; in_range = q })
+same_lines c o ls ms e p = subst (λ (ns : List Line). (q : IsTrue (are_lines ns))
+    → ◌≡◌ {A = Order} (record { customer = c; number = o; lines = ls; in_range = p })
+    (record { customer = c; number = o; lines = ns; in_range = q })) e
     (λ q i. record { customer = c; number = o; lines = ls; in_range = true_once (are_lines ls) p q i })
 
 order_exact : (a b : Order) → order_impl.ghosts.eq a b ≡ true → a ≡ b
@@ -59,7 +62,11 @@ bools_exact true false h = absurd (false≢true h)
 bools_exact false true h = absurd (false≢true h)
 
 placed_exact : (a b : Placed) → placed_impl.ghosts.eq a b ≡ true → a ≡ b
-placed_exact a b h = λ i. record { customer = eqb-true a.customer b.customer (first _ _ h) i; total = eqb-true a.total b.total (first _ _ (second _ _ h)) i; settled = bools_exact a.settled b.settled (second _ _ (second _ _ h)) i }
+placed_exact a b h = λ i. record {
+  customer = eqb-true a.customer b.customer (first _ _ h) i;
+  total = eqb-true a.total b.total (first _ _ (second _ _ h)) i;
+  settled = bools_exact a.settled b.settled (second _ _ (second _ _ h)) i;
+}
 
 pub rows_exact : (a b : StockRow) → row_impl.ghosts.eq a b ≡ true → a ≡ b
 rows_exact (row.Customer a) (row.Customer b) h = ap row.Customer (customer_exact a b h)
@@ -68,7 +75,8 @@ rows_exact (row.Order a) (row.Order b) h = ap row.Order (placed_exact a b h)
 rows_exact _ _ h = absurd (false≢true h)
 
 pub requests_exact : (a b : StockRequest) → request_impl.ghosts.eq a b ≡ true → a ≡ b
-requests_exact (request.AddItem i s c) (request.AddItem j t d) h = λ k. request.AddItem (eqb-true i j (first _ _ h) k) (eqb-true s t (first _ _ (second _ _ h)) k) (eqb-true c d (second _ _ (second _ _ h)) k)
+requests_exact (request.AddItem i s c) (request.AddItem j t d) h = λ k. request.AddItem (eqb-true i j (first _ _ h) k)
+    (eqb-true s t (first _ _ (second _ _ h)) k) (eqb-true c d (second _ _ (second _ _ h)) k)
 requests_exact (request.Restock i s) (request.Restock j t) h = λ k. request.Restock (eqb-true i j (first _ _ h) k) (eqb-true s t (second _ _ h) k)
 requests_exact (request.Open u) (request.Open w) h = ap request.Open (eqb-true u w h)
 requests_exact (request.PayIn u c) (request.PayIn w d) h = λ k. request.PayIn (eqb-true u w (first _ _ h) k) (eqb-true c d (second _ _ h) k)

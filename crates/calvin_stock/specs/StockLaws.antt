@@ -73,7 +73,8 @@ unless_within (Some f) x keys p = none_within f keys
 
 place_within : (o : Order) (rows : Rows StockRow) (c : Option Customer) → Within (place o rows c) (order_keys o)
 place_within o rows None = none_within NoCustomer _
-place_within o rows (Some c) = if_within (is_some (get rows (order_key o.number))) _ _ _ (none_within OrderExists _) (unless_within (first_fault o.lines rows) _ _ (placed_within o rows c (total_of o.lines rows)))
+place_within o rows (Some c) = if_within (is_some (get rows (order_key o.number))) _ _ _ (none_within OrderExists _)
+    (unless_within (first_fault o.lines rows) _ _ (placed_within o rows c (total_of o.lines rows)))
 
 two_within : (reply : StockReply) (k q : Key) (r s : StockRow) → Within (reply, (k, r) ∷ (q, s) ∷ []) (insert_key q (k ∷ []))
 two_within reply k q r s = all_within reply _ _ (λ x h. has-insert_key x q (k ∷ []) ∙ turned (same_key x q) (same_key x k) ∙ h) where
@@ -108,7 +109,8 @@ balance_within None = none_within NoCustomer _
 balance_within (Some customer) = none_within (Cents customer.balance) _
 
 writes_within : (a : StockRequest) (v : Rows StockRow) → Within (outcome_of a v) (needs_of a v).writes
-writes_within (request.AddItem i s c) v = if_within (nat_lt MOST_PIECES s || nat_lt MOST_CENTS c) _ _ _ (none_within Limit _) (if_within (is_some (get v (item_key i))) _ _ _ (none_within Exists _) (one_within _ _ _))
+writes_within (request.AddItem i s c) v = if_within (nat_lt MOST_PIECES s || nat_lt MOST_CENTS c) _ _ _ (none_within Limit _)
+    (if_within (is_some (get v (item_key i))) _ _ _ (none_within Exists _) (one_within _ _ _))
 writes_within (request.Restock i s) v = restock_within i s (item_at v i)
 writes_within (request.Open u) v = if_within (is_some (get v (customer_key u))) _ _ _ (none_within Exists _) (one_within _ _ _)
 writes_within (request.PayIn u c) v = pay_in_within u c (customer_at v u)
@@ -127,10 +129,12 @@ last_order_first u = ap (λ (r : Option StockRow). last_order (as_customer r)) (
 
 pub has-settle : (u : ℕ) (last : Option ℕ) → has (settle_keys u last) (customer_key u) ≡ true
 has-settle u None = ap (λ b. b || false) (same_key-self (customer_key u))
-has-settle u (Some o) = has-insert_key (customer_key u) (order_key o) (customer_key u ∷ []) ∙ ap (λ b. same_key (customer_key u) (order_key o) || (b || false)) (same_key-self (customer_key u)) ∙ go (same_key (customer_key u) (order_key o)) where
-  go : (b : Bool) → (b || (true || false)) ≡ true
-  go true = refl
-  go false = refl
+has-settle u (Some o) = has-insert_key (customer_key u) (order_key o) (customer_key u ∷ [])
+    ∙ ap (λ b. same_key (customer_key u) (order_key o) || (b || false)) (same_key-self (customer_key u))
+    ∙ go (same_key (customer_key u) (order_key o)) where
+      go : (b : Bool) → (b || (true || false)) ≡ true
+      go true = refl
+      go false = refl
 
 needs_follow : (a : StockRequest) (rows : Rows StockRow) → needs_of a (view rows (needs_of a rows).reads) ≡ needs_of a rows
 needs_follow (request.AddItem i s c) rows = refl

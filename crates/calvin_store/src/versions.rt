@@ -72,7 +72,9 @@ impl<Row: Copy> Versions<Row> {
     /// version.
     pub fn note(&mut self, place: Place, key: Key, row: Row, had: Option<Row>)
         requires { 0 < self.old.before.room }
-        ensures point { (rows : Rows Row) → map.get rows key ≡ had → point_at self.new.epoch (map.insert rows key row) self.new.before.rows ≡ put_point place ((key, row) ∷ []) (point_at self.old.epoch rows self.old.before.rows) }
+        ensures point { (rows : Rows Row) → map.get rows key ≡ had
+            → point_at self.new.epoch (map.insert rows key row) self.new.before.rows ≡ put_point place ((key, row) ∷ [])
+            (point_at self.old.epoch rows self.old.before.rows) }
         ensures beside { (rows : Rows Row) → AreBeside self.old.epoch rows self.old.before.rows → AreBeside self.new.epoch (map.insert rows key row) self.new.before.rows }
         ensures room { self.old.before.room - 1 ≤ self.new.before.room }
     {

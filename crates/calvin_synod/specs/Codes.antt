@@ -21,10 +21,13 @@ abbrev pub coded_proposal : Coded Proposal
 coded_proposal = code_by (Slot × Ballot) (coded× coded_slot coded_ballot) (λ p. (p.slot, p.ballot)) (λ p. record { slot = p.0; ballot = p.1 }) (λ _. refl)
 
 abbrev pub coded_tallied : Coded Tallied
-coded_tallied = code_by (FinMap proposal_cmp (List ℕ) × ℕ) (coded× (code coded_proposal (coded_list coded_ℕ)) coded_ℕ) (λ t. (t.counted, t.room)) (λ p. record { counted = p.0; room = p.1 }) (λ _. refl)
+coded_tallied = code_by (FinMap proposal_cmp (List ℕ)
+    × ℕ) (coded× (code coded_proposal (coded_list coded_ℕ)) coded_ℕ) (λ t. (t.counted, t.room)) (λ p. record { counted = p.0; room = p.1 })
+    (λ _. refl)
 
 abbrev pub coded_learner : Coded LearnerState
-coded_learner = code_by (ℕ × ((FinMap proposal_cmp (List ℕ) × FinMap slot_cmp Ballot) × Bool)) (coded× coded_ℕ (coded× (coded× (code coded_proposal (coded_list coded_ℕ)) (code coded_slot coded_ballot)) coded_bool))
+coded_learner = code_by (ℕ × ((FinMap proposal_cmp (List ℕ) × FinMap slot_cmp Ballot)
+    × Bool)) (coded× coded_ℕ (coded× (coded× (code coded_proposal (coded_list coded_ℕ)) (code coded_slot coded_ballot)) coded_bool))
     (λ l. (l.replicas, ((l.learning.counted, l.learning.given), l.ready))) (λ p. record { replicas = p.0; learning = record { counted = p.1.0.0; given = p.1.0.1 }; ready = p.1.1 }) (λ _. refl)
 
 module _ {B : Type 0} (batch : Coded B) where
@@ -44,9 +47,12 @@ module _ {B : Type 0} (batch : Coded B) where
   coded_report = code_by (ℕ × Option (Vote B)) (coded× coded_ℕ (coded_option coded_vote)) (λ r. (r.from, r.vote)) (λ p. record { from = p.0; vote = p.1 }) (λ _. refl)
 
   abbrev pub coded_attempt : Coded (Attempt B)
-  coded_attempt = code_by (Ballot × (B × List (Report B))) (coded× coded_ballot (coded× batch (coded_list coded_report))) (λ t. (t.ballot, (t.own, t.counted))) (λ p. record { ballot = p.0; own = p.1.0; counted = p.1.1 }) (λ _. refl)
+  coded_attempt = code_by (Ballot × (B
+      × List (Report B))) (coded× coded_ballot (coded× batch (coded_list coded_report))) (λ t. (t.ballot, (t.own, t.counted)))
+      (λ p. record { ballot = p.0; own = p.1.0; counted = p.1.1 }) (λ _. refl)
 
   abbrev pub coded_proposer : Coded (ProposerState B)
-  coded_proposer = code_by ((ℕ × ℕ) × (((ℕ × ℕ) × FinMap slot_cmp (Attempt B)) × Bool)) (coded× (coded× coded_ℕ coded_ℕ) (coded× (coded× (coded× coded_ℕ coded_ℕ) (code coded_slot coded_attempt)) coded_bool))
+  coded_proposer = code_by ((ℕ × ℕ) × (((ℕ × ℕ) × FinMap slot_cmp (Attempt B))
+      × Bool)) (coded× (coded× coded_ℕ coded_ℕ) (coded× (coded× (coded× coded_ℕ coded_ℕ) (code coded_slot coded_attempt)) coded_bool))
       (λ p. ((p.replicas, p.replica), (((p.proposing.used, p.proposing.seen), p.proposing.attempts), p.ready)))
       (λ p. record { replicas = p.0.0; replica = p.0.1; proposing = record { used = p.1.0.0.0; seen = p.1.0.0.1; attempts = p.1.0.1 }; ready = p.1.1 }) (λ _. refl)

@@ -57,7 +57,8 @@ impl<B: Drop> Acceptor<B> {
     /// Refused with `OutOfMemory` where the slot's first record found no room.
     pub fn prepare(&mut self, slot: Slot, ballot: Ballot) -> Result<Option<Ballot>, Fault>
         ensures bar { IfOk result (λ bar. bar ≡ bars_prepare (promise_at self.old.records slot) ballot) }
-        ensures promised { OnOk result (self.new ≡ unless (bars_prepare (promise_at self.old.records slot) ballot) (record { records = promised self.old.records slot ballot; ready = false }) self.old) }
+        ensures promised { OnOk result (self.new ≡ unless (bars_prepare (promise_at self.old.records slot) ballot)
+            (record { records = promised self.old.records slot ballot; ready = false }) self.old) }
         ensures err { OnErr result (self.new ≡ self.old) }
         ensures only { IsOkUnless result Fault.OutOfMemory }
         ensures first { OnErr result (map.get self.old.records slot ≡ None) }
@@ -87,7 +88,8 @@ impl<B: Drop> Acceptor<B> {
     /// the slot's first record found no room.
     pub fn accept(&mut self, slot: Slot, ballot: Ballot, batch: B) -> Result<Option<Ballot>, Fault>
         ensures bar { IfOk result (λ bar. bar ≡ bars_accept (promise_at self.old.records slot) ballot) }
-        ensures voted { OnOk result (self.new ≡ unless (bars_accept (promise_at self.old.records slot) ballot) (record { records = voted self.old.records slot (record { ballot = ballot; batch = batch }); ready = false }) self.old) }
+        ensures voted { OnOk result (self.new ≡ unless (bars_accept (promise_at self.old.records slot) ballot)
+            (record { records = voted self.old.records slot (record { ballot = ballot; batch = batch }); ready = false }) self.old) }
         ensures err { OnErr result (self.new ≡ self.old) }
         ensures only { IsOkUnless result Fault.OutOfMemory }
         ensures first { OnErr result (map.get self.old.records slot ≡ None) }

@@ -188,7 +188,11 @@ impl<B: Drop> Proposer<B> {
         vote: Option<Vote<B>>,
     ) -> Result<Option<B>, Fault>
         ensures batch { IfOk result (λ batch. batch ≡ roles.batch_due self.old.replicas (roles.current self.old.proposing from slot ballot) from vote) }
-        ensures reported { OnOk result (self.new ≡ record self.old { proposing = roles.reported self.old.replicas self.old.proposing slot (roles.current self.old.proposing from slot ballot) from vote }) }
+        ensures reported { OnOk result (self.new ≡ record
+            self.old {
+              proposing = roles.reported self.old.replicas self.old.proposing slot
+                  (roles.current self.old.proposing from slot ballot) from vote;
+            }) }
         ensures not_current { IsErrOf result Fault.NotCurrent ↔ (roles.current self.old.proposing from slot ballot ≡ None) }
         ensures only { IsOkUnless result Fault.NotCurrent }
         ensures err { OnErr result (self.new ≡ self.old) }

@@ -26,7 +26,8 @@ has-alike ks q x h = ap (has ks) (sym (key_cmp_exact q x h))
 
 pub has-push : (ks : List Key) (k q : Key) → has (ks ++ k ∷ []) q ≡ (has ks q || same_key q k)
 has-push [] k q = elim (same_key q k) as (λ b. (b || false) ≡ b) [ true ↦ refl | false ↦ refl ]
-has-push (x ∷ ks) k q = ap (λ b. same_key q x || b) (has-push ks k q) ∙ elim (same_key q x) as (λ b. (b || (has ks q || same_key q k)) ≡ ((b || has ks q) || same_key q k)) [ true ↦ refl | false ↦ refl ]
+has-push (x ∷ ks) k q = ap (λ b. same_key q x || b) (has-push ks k q)
+    ∙ elim (same_key q x) as (λ b. (b || (has ks q || same_key q k)) ≡ ((b || has ks q) || same_key q k)) [ true ↦ refl | false ↦ refl ]
 
 pub same_key-self : (k : Key) → same_key k k ≡ true
 same_key-self k = ap is_eq (tied_itself key_cmp_total k)

@@ -277,7 +277,8 @@ where
         requires config { book.config ≡ J.config }
         ensures start { IfOk result (λ c. AreMarked A.meaning book c.start.items) }
         ensures back { IfErr result (λ refused. refused.1 ≡ book) }
-        ensures only { IfErr result (λ refused. (((workers ≡ 0) ⊎ (MOST_WORKERS < workers)) × (refused.0 ≡ Fault.BadWorkers)) ⊎ ((0 < workers) × (workers ≤ MOST_WORKERS) × (refused.0 ≡ Fault.OutOfMemory))) }
+        ensures only { IfErr result (λ refused. (((workers ≡ 0) ⊎ (MOST_WORKERS < workers)) × (refused.0 ≡ Fault.BadWorkers))
+            ⊎ ((0 < workers) × (workers ≤ MOST_WORKERS) × (refused.0 ≡ Fault.OutOfMemory))) }
     {
         if workers == 0 {
             return Err((Fault::BadWorkers, book));

@@ -108,7 +108,8 @@ impl<A: App + Drop, L: Locks + Drop, S: Rows<A::Row> + Drop, J: WideFounding> Wi
         act: &Act<A::Args>,
         app: &A,
     ) -> Result<Mark<Entry<A::Args, A::Row, A::Reply>, J>, Fault>
-        ensures { IfOk result (λ mark. (self.new ≡ record self.old { history = self.old.history ++ Own act.now ∷ [] }) × (self.old.id ≡ id_of J.config.partitions mark.0) × (mark.1 ≡ self.new.history)) }
+        ensures { IfOk result (λ mark. (self.new ≡ record self.old { history = self.old.history ++ Own act.now ∷ [] })
+            × (self.old.id ≡ id_of J.config.partitions mark.0) × (mark.1 ≡ self.new.history)) }
     {
         let Some(mut pen) = self.pen.take() else {
             return Err(Fault::Closed);

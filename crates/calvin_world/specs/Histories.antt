@@ -47,7 +47,9 @@ module _ {Args Row Reply : Type 0} where
 
     -- ---- what was submitted
 
-    abbrev pub SomeEvent : (WorldState Args Row Reply → Event Args → Type 0) → (w : WorldState Args Row Reply) (events : List (Event Args)) (outcomes : List Outcome) (new : WorldState Args Row Reply) → SettledLeads m w events outcomes new → Type 0
+    abbrev pub SomeEvent : (WorldState Args Row Reply → Event Args → Type 0)
+        → (w : WorldState Args Row Reply) (events : List (Event Args)) (outcomes : List Outcome) (new : WorldState Args Row Reply)
+        → SettledLeads m w events outcomes new → Type 0
     SomeEvent Such w [] [] new leads = ⊥
     SomeEvent Such w [] (outcome ∷ outcomes) new leads = ⊥
     SomeEvent Such w (event ∷ events) [] new leads = ⊥
@@ -60,7 +62,8 @@ module _ {Args Row Reply : Type 0} where
     abbrev pub SubmittedBefore : WorldState Args Row Reply → Type 0
     SubmittedBefore w = (earlier : List (Event Args)) (outcomes : List Outcome) (v : WorldState Args Row Reply) (leads : SettledLeads m (opening w.config) earlier outcomes v)
         → (event : Event Args) (outcome : Outcome) (u : WorldState Args Row Reply) → SettledStep m v event outcome u → LeadsOn u w
-        → (slot : Slot) (batch : Batch Args) → (Chosen v slot batch → ⊥) → Chosen u slot batch → (t : Txn Args) → Contains batch t → SomeEvent (IsSubmitFor slot t) (opening w.config) earlier outcomes v leads
+        → (slot : Slot) (batch : Batch Args) → (Chosen v slot batch → ⊥) → Chosen u slot batch → (t : Txn Args) → Contains batch t
+        → SomeEvent (IsSubmitFor slot t) (opening w.config) earlier outcomes v leads
 
     -- ---- where it stands
 

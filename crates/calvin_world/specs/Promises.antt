@@ -116,7 +116,9 @@ module _ {Args Row Reply : Type 0} where
   Submits t w event = (at : NodeId) × IsSubmit event at t
 
   -- one of the events took effect, in a world for which it is such
-  abbrev pub Sometime : (m : Meaning Args Row Reply) → (WorldState Args Row Reply → Event Args → Type 0) → (w : WorldState Args Row Reply) (events : List (Event Args)) (outcomes : List Outcome) (new : WorldState Args Row Reply) → Leads m w events outcomes new → Type 0
+  abbrev pub Sometime : (m : Meaning Args Row Reply) → (WorldState Args Row Reply → Event Args → Type 0)
+      → (w : WorldState Args Row Reply) (events : List (Event Args)) (outcomes : List Outcome) (new : WorldState Args Row Reply)
+      → Leads m w events outcomes new → Type 0
   Sometime m Such w [] [] new leads = ⊥
   Sometime m Such w [] (outcome ∷ outcomes) new leads = ⊥
   Sometime m Such w (event ∷ events) [] new leads = ⊥
@@ -128,7 +130,8 @@ module _ {Args Row Reply : Type 0} where
     -- what a node holds is chosen
     pub held : (id : NodeId) (x : NodeState Args Row) → IsNode w id x → (slot : Slot) (batch : Batch Args) → get x.held slot ≡ Some batch → Chosen w slot batch
     -- two nodes hold the same batch for one slot
-    pub held_alike : (a b : NodeId) (x y : NodeState Args Row) → IsNode w a x → IsNode w b y → (slot : Slot) (batch other : Batch Args) → get x.held slot ≡ Some batch → get y.held slot ≡ Some other → batch ≡ other
+    pub held_alike : (a b : NodeId) (x y : NodeState Args Row) → IsNode w a x → IsNode w b y → (slot : Slot) (batch other : Batch Args)
+        → get x.held slot ≡ Some batch → get y.held slot ≡ Some other → batch ≡ other
     -- two chosen batches of one slot are the same
     pub one : (slot : Slot) (b c : Batch Args) → Chosen w slot b → Chosen w slot c → b ≡ c
     -- what a node merged is the merged requests of what is chosen
@@ -138,7 +141,8 @@ module _ {Args Row Reply : Type 0} where
     pub handed : (id : NodeId) (x : NodeState Args Row) → IsNode w id x → (B : Assignment Args) → IsChosenUpTo w B x.merged_epochs → IsHanded w.config B id x
     -- of two nodes the order of the one that merged less is a beginning of the other's
     pub begins : (a b : NodeId) (x y : NodeState Args Row) → IsNode w a x → IsNode w b y → x.merged_epochs ≤ y.merged_epochs
-        → (B C : Assignment Args) → IsChosenUpTo w B x.merged_epochs → IsChosenUpTo w C y.merged_epochs → (rest : Order Args) × (order w.config C y.merged_epochs ≡ order w.config B x.merged_epochs ++ rest)
+        → (B C : Assignment Args) → IsChosenUpTo w B x.merged_epochs → IsChosenUpTo w C y.merged_epochs
+        → (rest : Order Args) × (order w.config C y.merged_epochs ≡ order w.config B x.merged_epochs ++ rest)
 
   -- ---- the headline
 
@@ -173,9 +177,12 @@ module _ {Args Row Reply : Type 0} where
       -- every read ever sent is the view of the serial rows just before its place
       pub reads : (p : Packet Args Row Reply) → Contains w.packets p → (q : Place) (rows : Rows Row) → p.content ≡ Reads q rows
           → (B : Assignment Args) → IsChosenUpTo w B (suc q.epoch)
-          → (t : Txn Args) × StandsAt (order w.config B (suc q.epoch)) q t × (rows ≡ view (rows_before m (order w.config B (suc q.epoch)) empty q) (local_keys (site w.config.partitions p.from.partition) t.sets.reads))
+          → (t : Txn Args) × StandsAt (order w.config B (suc q.epoch)) q t
+          × (rows ≡ view (rows_before m (order w.config B (suc q.epoch)) empty q)
+          (local_keys (site w.config.partitions p.from.partition) t.sets.reads))
       -- every durable snapshot has its partition's rows of the serial run
-      pub kept : (id : NodeId) (x : NodeState Args Row) → IsNode w id x → (B : Assignment Args) → IsChosenUpTo w B x.kept_epochs → x.kept_rows ≡ part w.config.partitions id.partition (rows_after w.config B x.kept_epochs)
+      pub kept : (id : NodeId) (x : NodeState Args Row) → IsNode w id x → (B : Assignment Args) → IsChosenUpTo w B x.kept_epochs
+          → x.kept_rows ≡ part w.config.partitions id.partition (rows_after w.config B x.kept_epochs)
 
     -- an open point has its partition's rows of the serial run up to it, once the epochs up to it are merged and done, however much is done of later ones
     abbrev pub PointsAreSerial : WorldState Args Row Reply → Type 0
@@ -188,7 +195,8 @@ module _ {Args Row Reply : Type 0} where
   -- two nodes hold equal rows, and what the first one has replied at the places of the first n epochs the second one has replied too
   pub record AreAlike (w : WorldState Args Row Reply) (n : ℕ) (a b : NodeId) (x y : NodeState Args Row) : Type 0 where
     pub rows : x.scheduler.store.map ≡ y.scheduler.store.map
-    pub replies : (p : Packet Args Row Reply) → Contains w.packets p → p.from ≡ a → (q : Place) (id : RequestId) (attempt : ℕ) (answer : Answer Reply) → p.content ≡ Replies q id attempt answer → q.epoch < n
+    pub replies : (p : Packet Args Row Reply) → Contains w.packets p → p.from ≡ a → (q : Place) (id : RequestId) (attempt : ℕ) (answer : Answer Reply)
+        → p.content ≡ Replies q id attempt answer → q.epoch < n
         → (r : Packet Args Row Reply) × Contains w.packets r × (r.from ≡ b) × (r.content ≡ p.content)
 
   -- any two nodes of one partition that stand at the end of the same epochs are alike

@@ -148,7 +148,13 @@ pub record RanOutbid (w : WorldState KvRequest ℕ KvReply) : Type 0 where
   pub node : NodeState KvRequest ℕ
   pub there : w.nodes ≡ node ∷ []
   pub promise : promise_at node.synod.acceptor first_slot ≡ Some (record { round = 2; replica = 0 })
-  pub refusal : slice_get w.packets 3 ≡ Some (record { from = own_id; to = AtNode own_id; content = Synod (message.Refused first_slot (record { round = 1; replica = 0 }) (record { round = 2; replica = 0 })) })
+  pub refusal : slice_get w.packets 3 ≡ Some
+      (record {
+        from = own_id;
+        to = AtNode own_id;
+        content = Synod (message.Refused first_slot (record { round = 1; replica = 0 })
+            (record { round = 2; replica = 0 }));
+      })
 
 -- an epoch without requests
 abbrev pub empty_run : List (Event KvRequest)

@@ -55,7 +55,8 @@ pub fn chosen_was_submitted<A: App>()
 /// or the vote is counted.
 pub fn given_is_held<A: App>()
     ensures { (c : Config) (events : List (Event A.Args)) (outcomes : List Outcome) (w : WorldState A.Args A.Row A.Reply) → Leads A.meaning (opening c) events outcomes w
-        → (id : NodeId) (x : NodeState A.Args A.Row) → IsNode w id x → (slot : Slot) (ballot : Ballot) → get x.synod.learner.given slot ≡ Some ballot → (batch : Batch A.Args) × (get x.held slot ≡ Some batch) }
+        → (id : NodeId) (x : NodeState A.Args A.Row) → IsNode w id x → (slot : Slot) (ballot : Ballot) → get x.synod.learner.given slot ≡ Some ballot
+        → (batch : Batch A.Args) × (get x.held slot ≡ Some batch) }
 {}
 
 /// A request that no submit had before a reply was sent stands only in epochs above the reply's.

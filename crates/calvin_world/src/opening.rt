@@ -31,7 +31,10 @@ pub fn opening_is_restart<Args, Row, Reply>()
     ensures data { (c : Config) (id : NodeId) (d : Durable Args Row) (next : NodeState Args Row) → from_durable c id d ≡ Ok next → (next.id ≡ id) × (durable_of (with_woven c d.woven_from) next ≡ d) }
     ensures restarts { (c : Config) (id : NodeId) (d : Durable Args Row) (next : NodeState Args Row) → from_durable c id d ≡ Ok next
         → (x : NodeState Args Row) → x.id ≡ id → durable_of (with_woven c d.woven_from) x ≡ d → ◌≡◌ {A = NodeDeed Args Row Reply} (restart x) (Does next []) }
-    ensures succeeds { (c : Config) (id : NodeId) (d : Durable Args Row) → is_order_changed c.woven_from d.woven_from d.kept_epochs ≡ false → (next : NodeState Args Row) × (from_durable c id d ≡ Ok next) }
-    ensures only { (c : Config) (id : NodeId) (d : Durable Args Row) (fault : Fault) → from_durable c id d ≡ Err fault → (fault ≡ OrderChanged) × (is_order_changed c.woven_from d.woven_from d.kept_epochs ≡ true) }
-    ensures own { (c : Config) (x : NodeState Args Row) → (next : NodeState Args Row) × (◌≡◌ {A = NodeDeed Args Row Reply} (restart x) (Does next [])) × (from_durable c x.id (durable_of c x) ≡ Ok next) }
+    ensures succeeds { (c : Config) (id : NodeId) (d : Durable Args Row) → is_order_changed c.woven_from d.woven_from d.kept_epochs ≡ false
+        → (next : NodeState Args Row) × (from_durable c id d ≡ Ok next) }
+    ensures only { (c : Config) (id : NodeId) (d : Durable Args Row) (fault : Fault) → from_durable c id d ≡ Err fault
+        → (fault ≡ OrderChanged) × (is_order_changed c.woven_from d.woven_from d.kept_epochs ≡ true) }
+    ensures own { (c : Config) (x : NodeState Args Row) → (next : NodeState Args Row) × (◌≡◌ {A = NodeDeed Args Row Reply} (restart x) (Does next []))
+        × (from_durable c x.id (durable_of c x) ≡ Ok next) }
 {}

@@ -18,5 +18,6 @@ pub fn all_are_woven<Args>()
 
 /// Where a record isn't refused because of the order, the epochs of its snapshot have the same rows in both orders.
 pub fn kept_order_same_rows<Args, Row, Reply>()
-    ensures { (m : Meaning Args Row Reply) (c : Config) (a b : Option ℕ) (n : ℕ) → is_order_changed a b n ≡ false → (B : Assignment Args) → rows_after m (with_woven c a) B n ≡ rows_after m (with_woven c b) B n }
+    ensures { (m : Meaning Args Row Reply) (c : Config) (a b : Option ℕ) (n : ℕ) → is_order_changed a b n ≡ false → (B : Assignment Args)
+        → rows_after m (with_woven c a) B n ≡ rows_after m (with_woven c b) B n }
 {}

@@ -17,7 +17,8 @@ pub fn replicas_are_serial<A: App>()
 /// After every list of events: an open point has its partition's rows of the serial run up to it, once the epochs up to it
 /// are merged and done, however much is done of later ones.
 pub fn points_are_serial<A: App>()
-    ensures { (c : Config) (events : List (Event A.Args)) (outcomes : List Outcome) (w : WorldState A.Args A.Row A.Reply) → Leads A.meaning (opening c) events outcomes w → PointsAreSerial A.meaning w }
+    ensures { (c : Config) (events : List (Event A.Args)) (outcomes : List Outcome) (w : WorldState A.Args A.Row A.Reply)
+        → Leads A.meaning (opening c) events outcomes w → PointsAreSerial A.meaning w }
 {}
 
 /// After every list of events: two nodes of one partition that stand at the end of the same epochs hold equal rows, and each

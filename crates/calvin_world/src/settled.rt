@@ -45,13 +45,15 @@ pub fn settled_leads<Args, Row, Reply>()
     ensures later { (m : Meaning Args Row Reply) (c : Config) (earlier : List (Event Args)) (outcomes : List Outcome) (w : WorldState Args Row Reply) → Leads m (opening c) earlier outcomes w
         → (later : List (Event Args)) (more : List Outcome) (v : WorldState Args Row Reply) → SettledLeads m (settled_world w) later more v
         → (x : WorldState Args Row Reply) × Leads m w later more x × (v ≡ settled_world x) }
-    ensures reaches { (m : Meaning Args Row Reply) (c : Config) (events : List (Event Args)) (outcomes : List Outcome) (w : WorldState Args Row Reply) → Leads m (opening c) events outcomes w → SettledLeads m (opening c) events outcomes (settled_world w) }
+    ensures reaches { (m : Meaning Args Row Reply) (c : Config) (events : List (Event Args)) (outcomes : List Outcome) (w : WorldState Args Row Reply)
+        → Leads m (opening c) events outcomes w → SettledLeads m (opening c) events outcomes (settled_world w) }
 {}
 
 /// Where memory never runs out each event of a world in code ends as its case says, and the world is the one that the cases lead
 /// to, settled.
 pub fn settled_through<Args, Row, Reply>()
-    ensures { (m : Meaning Args Row Reply) (c : Config) (events : List (Event Args)) (outcomes : List Outcome) (v : WorldState Args Row Reply) → SettledLeads m (opening c) events outcomes v → WithoutWant outcomes
+    ensures { (m : Meaning Args Row Reply) (c : Config) (events : List (Event Args)) (outcomes : List Outcome) (v : WorldState Args Row Reply)
+        → SettledLeads m (opening c) events outcomes v → WithoutWant outcomes
         → (outcomes ≡ (through m (opening c) events).0) × (v ≡ settled_world (through m (opening c) events).1) }
 {}
 
@@ -59,11 +61,13 @@ pub fn settled_through<Args, Row, Reply>()
 /// the node, and for a packet that is for it.
 pub fn settled_calls<Args, Row, Reply>()
     ensures acts { (m : Meaning Args Row Reply) (v : WorldState Args Row Reply) → settled_world v ≡ v → (me : NodeId) (x : NodeState Args Row) → node_at v me ≡ Some x
-        → (act : Act Args) (result : Result (Unit {0}) Fault) (new : Running Args Row) (all : List (Packet Args Row Reply)) → NodeDid (act_grows v.config act x) result (deed_of m v.config act x) (record { config = v.config; state = x }) new v.packets all
+        → (act : Act Args) (result : Result (Unit {0}) Fault) (new : Running Args Row) (all : List (Packet Args Row Reply))
+        → NodeDid (act_grows v.config act x) result (deed_of m v.config act x) (record { config = v.config; state = x }) new v.packets all
         → SettledStep m v (At me act) (outcome_of result) (called v me new.state all) }
     ensures packets { (m : Meaning Args Row Reply) (v : WorldState Args Row Reply) → settled_world v ≡ v → (me : NodeId) (x : NodeState Args Row) → node_at v me ≡ Some x
         → (number : ℕ) (p : Packet Args Row Reply) → slice_get v.packets number ≡ Some p → p.to ≡ AtNode me
-        → (result : Result (Unit {0}) Fault) (new : Running Args Row) (all : List (Packet Args Row Reply)) → NodeDid (content_grows v.config p.content x) result (handle v.config p x) (record { config = v.config; state = x }) new v.packets all
+        → (result : Result (Unit {0}) Fault) (new : Running Args Row) (all : List (Packet Args Row Reply))
+        → NodeDid (content_grows v.config p.content x) result (handle v.config p x) (record { config = v.config; state = x }) new v.packets all
         → SettledStep m v (Deliver number) (outcome_of result) (called v me new.state all) }
 {}
 
@@ -76,9 +80,12 @@ pub fn settled_stands<Args, Row>()
 /// What is promised after every list of events is so of a world in code: its nodes are those, settled, of a world in which all
 /// agree; each replica is the serial run, and so is an open point; and two nodes that stand at the same end are alike.
 pub fn settled_is_serial<A: App>()
-    ensures agrees { (c : Config) (events : List (Event A.Args)) (outcomes : List Outcome) (v : WorldState A.Args A.Row A.Reply) → SettledLeads A.meaning (opening c) events outcomes v → (w : WorldState A.Args A.Row A.Reply) × Agrees w × (v ≡ settled_world w) }
-    ensures serial { (c : Config) (events : List (Event A.Args)) (outcomes : List Outcome) (v : WorldState A.Args A.Row A.Reply) → SettledLeads A.meaning (opening c) events outcomes v → IsSerial A.meaning v }
-    ensures points { (c : Config) (events : List (Event A.Args)) (outcomes : List Outcome) (v : WorldState A.Args A.Row A.Reply) → SettledLeads A.meaning (opening c) events outcomes v → PointsAreSerial A.meaning v }
+    ensures agrees { (c : Config) (events : List (Event A.Args)) (outcomes : List Outcome) (v : WorldState A.Args A.Row A.Reply)
+        → SettledLeads A.meaning (opening c) events outcomes v → (w : WorldState A.Args A.Row A.Reply) × Agrees w × (v ≡ settled_world w) }
+    ensures serial { (c : Config) (events : List (Event A.Args)) (outcomes : List Outcome) (v : WorldState A.Args A.Row A.Reply)
+        → SettledLeads A.meaning (opening c) events outcomes v → IsSerial A.meaning v }
+    ensures points { (c : Config) (events : List (Event A.Args)) (outcomes : List Outcome) (v : WorldState A.Args A.Row A.Reply)
+        → SettledLeads A.meaning (opening c) events outcomes v → PointsAreSerial A.meaning v }
     ensures alike { (c : Config) (events : List (Event A.Args)) (outcomes : List Outcome) (v : WorldState A.Args A.Row A.Reply) → SettledLeads A.meaning (opening c) events outcomes v → StandAlike v }
 {}
 
@@ -91,9 +98,11 @@ pub fn settled_nodes_are_there<A: App>()
     ensures named { (c : Config) (events : List (Event A.Args)) (outcomes : List Outcome) (v : WorldState A.Args A.Row A.Reply) → SettledLeads A.meaning (opening c) events outcomes v
         → (id : NodeId) (x : NodeState A.Args A.Row) → IsNode v id x → x.id ≡ id }
     ensures given { (c : Config) (events : List (Event A.Args)) (outcomes : List Outcome) (v : WorldState A.Args A.Row A.Reply) → SettledLeads A.meaning (opening c) events outcomes v
-        → (id : NodeId) (x : NodeState A.Args A.Row) → IsNode v id x → (slot : Slot) (ballot : Ballot) → get x.synod.learner.given slot ≡ Some ballot → (batch : Batch A.Args) × (get x.held slot ≡ Some batch) }
+        → (id : NodeId) (x : NodeState A.Args A.Row) → IsNode v id x → (slot : Slot) (ballot : Ballot) → get x.synod.learner.given slot ≡ Some ballot
+        → (batch : Batch A.Args) × (get x.held slot ≡ Some batch) }
     ensures locks { (c : Config) (events : List (Event A.Args)) (outcomes : List Outcome) (v : WorldState A.Args A.Row A.Reply) → SettledLeads A.meaning (opening c) events outcomes v
-        → (id : NodeId) (x : NodeState A.Args A.Row) → IsNode v id x → (fault : Fault) → ◌≡◌ {A = NodeDeed A.Args A.Row A.Reply} (lock v.config x) (Refuses fault) → (fault ≡ NothingToLock) × (x.pending ≡ []) }
+        → (id : NodeId) (x : NodeState A.Args A.Row) → IsNode v id x → (fault : Fault)
+        → ◌≡◌ {A = NodeDeed A.Args A.Row A.Reply} (lock v.config x) (Refuses fault) → (fault ≡ NothingToLock) × (x.pending ≡ []) }
 {}
 
 /// In code, too, what is chosen stays chosen, and what a node held is chosen after all events.
@@ -115,7 +124,8 @@ pub fn settled_was_submitted<A: App>()
         × ((slot : Slot) (batch : Batch A.Args) → Chosen v slot batch → (t : Txn A.Args) → Contains batch t → Sometime A.meaning (IsSubmitFor slot t) (opening c) events outcomes w leads) }
     ensures before { (c : Config) (earlier : List (Event A.Args)) (outcomes : List Outcome) (v : WorldState A.Args A.Row A.Reply) → SettledLeads A.meaning (opening c) earlier outcomes v
         → (w : WorldState A.Args A.Row A.Reply) × (leads : Leads A.meaning (opening c) earlier outcomes w) × (v ≡ settled_world w)
-        × ((event : Event A.Args) (outcome : Outcome) (u : WorldState A.Args A.Row A.Reply) → SettledStep A.meaning v event outcome u → (slot : Slot) (batch : Batch A.Args) → (Chosen v slot batch → ⊥) → Chosen u slot batch
+        × ((event : Event A.Args) (outcome : Outcome) (u : WorldState A.Args A.Row A.Reply) → SettledStep A.meaning v event outcome u
+        → (slot : Slot) (batch : Batch A.Args) → (Chosen v slot batch → ⊥) → Chosen u slot batch
         → (t : Txn A.Args) → Contains batch t → Sometime A.meaning (IsSubmitFor slot t) (opening c) earlier outcomes w leads) }
     ensures later { (c : Config) (earlier : List (Event A.Args)) (outcomes : List Outcome) (v : WorldState A.Args A.Row A.Reply) → SettledLeads A.meaning (opening c) earlier outcomes v
         → (w : WorldState A.Args A.Row A.Reply) × (leads : Leads A.meaning (opening c) earlier outcomes w) × (v ≡ settled_world w)

@@ -31,11 +31,15 @@ pub fn nothing_to_deliver<Args, Row, Reply>()
 /// one, and is of no epoch of a loaded snapshot. So a locking is refused only where nothing is pending.
 pub fn pending_can_be_locked<A: App>()
     ensures { (c : Config) (events : List (Event A.Args)) (outcomes : List Outcome) (w : WorldState A.Args A.Row A.Reply) → Leads A.meaning (opening c) events outcomes w
-        → (id : NodeId) (x : NodeState A.Args A.Row) → IsNode w id x → (fault : Fault) → ◌≡◌ {A = NodeDeed A.Args A.Row A.Reply} (lock w.config x) (Refuses fault) → (fault ≡ NothingToLock) × (x.pending ≡ []) }
+        → (id : NodeId) (x : NodeState A.Args A.Row) → IsNode w id x → (fault : Fault)
+        → ◌≡◌ {A = NodeDeed A.Args A.Row A.Reply} (lock w.config x) (Refuses fault) → (fault ≡ NothingToLock) × (x.pending ≡ []) }
 {}
 
 /// An act that grows nothing sends nothing where it takes effect; nor does a node send anything on a packet that grows nothing.
 pub fn what_grows_nothing_is_silent<Args, Row, Reply>()
-    ensures acts { (m : Meaning Args Row Reply) (c : Config) (x next : NodeState Args Row) (sent : List (Packet Args Row Reply)) (act : Act Args) → act_grows c act x ≡ false → deed_of m c act x ≡ Does next sent → sent ≡ [] }
-    ensures packets { (m : Meaning Args Row Reply) (c : Config) (x next : NodeState Args Row) (sent : List (Packet Args Row Reply)) (from : NodeId) (content : Content Args Row Reply) → content_grows c content x ≡ false → ◌≡◌ {A = NodeDeed Args Row Reply} (handle_content c from content x) (Does next sent) → sent ≡ [] }
+    ensures acts { (m : Meaning Args Row Reply) (c : Config) (x next : NodeState Args Row) (sent : List (Packet Args Row Reply)) (act : Act Args)
+        → act_grows c act x ≡ false → deed_of m c act x ≡ Does next sent → sent ≡ [] }
+    ensures packets { (m : Meaning Args Row Reply) (c : Config) (x next : NodeState Args Row) (sent : List (Packet Args Row Reply)) (from : NodeId)
+        (content : Content Args Row Reply) → content_grows c content x ≡ false
+        → ◌≡◌ {A = NodeDeed Args Row Reply} (handle_content c from content x) (Does next sent) → sent ≡ [] }
 {}

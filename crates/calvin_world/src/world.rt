@@ -90,7 +90,8 @@ impl<A: App + Drop, L: Locks + Drop, S: Rows<A::Row> + Drop> World<A, L, S> {
 
     /// Where a node stands among all, if it is there.
     fn index(&self, id: NodeId) -> Option<usize>
-        ensures { MatchOption result (node_at self.now id ≡ None) (λ at. (at ≡ index_of self.now.config.partitions id) × (at < length self.now.nodes) × (node_at self.now id ≡ slice_get self.now.nodes at)) }
+        ensures { MatchOption result (node_at self.now id ≡ None) (λ at. (at ≡ index_of self.now.config.partitions id) × (at < length self.now.nodes)
+            × (node_at self.now id ≡ slice_get self.now.nodes at)) }
     {
         if id.replica < self.config.replicas && id.partition < self.config.partitions {
             let before = id.replica as usize * self.config.partitions as usize;
