@@ -1,10 +1,12 @@
-"""Draws lists of events for `calvin check`, with what has to be printed for them.
+"""Draws lists of events for `calvin check`, with what has to be printed for them, and how they are written.
 
 Events are drawn while a plain world runs along, most of them such as can take effect; in half of the lists most that are
 refused are left out, so that more comes about. Half have points, half cold rows and a delay, and half `woven_from`. A quarter
 are of `once`: many of their requests have a name that came before, and some of these lists are refused for a set that would have
 a seventeenth key. Every other list says which answers it expects: half of these expect the right ones, and half differ in a
 line."""
+
+import json
 
 import plain_serial
 import plain_world
@@ -229,3 +231,19 @@ def with_expectation(draw, script, answers):
         at = draw.randrange(len(expect))
         expect[at : at + 1] = draw.choice([[], [expect[at] + " "], [expect[at], expect[at]], [expect[at] + "\n"]])
     return {**script, "expect": expect}, 3 if kind == 3 else 0
+
+
+def spelled(draw, counts, script):
+    """The bytes of a script: its members in this order or in another, each s escaped, or its partitions given twice, first in a
+    wrong form, with which it isn't read in the usual way."""
+    way = draw.choice(["plain", "shuffled", "escaped", "doubled"])
+    counts["spelling", way] += 1
+    names = list(script)
+    if way == "shuffled":
+        draw.shuffle(names)
+    text = json.dumps({name: script[name] for name in names}, indent=draw.choice([None, 1]))
+    if way == "escaped":
+        text = text.replace("s", "\\u0073")
+    if way == "doubled":
+        text = '{"partitions":null,' + text[1:]
+    return text.encode()

@@ -204,7 +204,9 @@ class Said:
             return "passes", ""
         errors = [] if status.startswith("could not tell") else self.errors(name)
         unfit = [it for it in errors if UNFIT.search(it[2])]
-        left = re.findall(r"`([^`]*)`", status.partition("`search` did not prove ")[2])
+        # (behind its goals stand the functions that it calls and that aren't proved, as those with edits of their own)
+        searched = status.partition("`search` did not prove ")[2].partition("; it calls ")[0]
+        left = re.findall(r"`([^`]*)`", searched)
         left, written = goals_left(left, unfit, [it for it in errors if it not in unfit])
         path = "::".join(name)
         if found := [it for it in left if it not in dropped]:

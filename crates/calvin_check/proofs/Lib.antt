@@ -1,2 +1,3 @@
 mod Steps
 mod Telling
+pub mod Told

@@ -4,19 +4,19 @@ ghost use Rattle.std.specs.Result.{result_err};
 ghost use Rattle.std.specs.Io.KnownBytes.{Appends};
 ghost use Rattle.calvin_edge.specs.Answering.{HasText, HasBeginning, Refuses};
 ghost use Rattle.calvin_edge.specs.Devices.{LeavesAsTold};
-ghost use Rattle.calvin_script.specs.Documents.{data_of};
 ghost use Rattle.calvin_script.specs.Reading.{and_then, json, Reads};
 ghost use Rattle.calvin_script_events.specs.EventScripts.{world_contents};
-ghost use Rattle.calvin_check.specs.Checks.{report, told_behind, answer_lines, are_expected, is_as_expected, report_for, report_in, check_text, IsExpected, IsCheckFault};
+ghost use Rattle.calvin_check.specs.Checks.{report, told_behind, answer_lines, are_expected, is_as_expected, report_in, check_text, IsExpected, IsCheckFault};
 
 use crate::expecting::are_lines;
 use crate::running::run_events;
 use calvin_app::{App, Kv};
 use calvin_edge::{Sink, Source, read_all, write_all};
+use calvin_event_tokens::{AppEventScript, read_event_script};
 use calvin_lock::Locks;
 use calvin_report::{Epochs, finished, push_nodes, push_replies, replies_of};
-use calvin_script::{AppName, Document, Kept, Operation};
-use calvin_script_events::{EventScript, event_script_of};
+use calvin_script::{Kept, Operation};
+use calvin_script_events::EventScript;
 use calvin_stock::{Stock, stock_once};
 use calvin_store::Rows;
 use calvin_text::{Printed, push_last};
@@ -81,28 +81,15 @@ where
     Ok(Report { text, is_expected })
 }
 
-/// What is told of a document for an application.
-fn report_for<A: App + Drop>(alloc: Global, app: A, document: Document) -> Result<Report, Fault>
-where
-    A::Args: Operation,
-    A::Reply: Printed,
-    ensures { Reads (λ r. (r.text.items, r.is_expected)) result (report_for A.Reply.printed A.meaning A.Args.grammar (data_of document)) }
-{
-    let script = event_script_of::<A::Args>(alloc, document)?;
-    report_of(alloc, app, &script)
-}
-
 /// What is told of the bytes of a script, for the application that it names.
+#[tactic(auto, using(crate::proofs::Told::refused))]
 fn report_in(alloc: Global, bytes: Vec<u8>) -> Result<Report, Fault>
     ensures { Reads (λ r. (r.text.items, r.is_expected)) result (and_then (json bytes.items) report_in) }
 {
-    let document = Document::read(alloc, &bytes)?;
-    drop(bytes);
-    match document.app() {
-        Some(AppName::Kv) => report_for(alloc, Kv, document),
-        Some(AppName::Stock) => report_for(alloc, Stock, document),
-        Some(AppName::Once) => report_for(alloc, stock_once(), document),
-        None => Err(Fault::BadScript),
+    match read_event_script(alloc, bytes)? {
+        AppEventScript::Kv(script) => report_of(alloc, Kv, &script),
+        AppEventScript::Stock(script) => report_of(alloc, Stock, &script),
+        AppEventScript::Once(script) => report_of(alloc, stock_once(), &script),
     }
 }
 

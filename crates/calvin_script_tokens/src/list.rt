@@ -9,7 +9,7 @@ use json::Reader;
 use std::alloc::Global;
 
 /// What tokens can spell.
-pub(crate) trait Piece: Drop {
+pub trait Piece: Drop {
     /// What a value is, apart from where it lies in memory.
     ghost Meaning: { Type 0 };
 
@@ -43,7 +43,7 @@ fn make_room<T: Piece>(found: &mut Vec<T>) -> Option<()>
 }
 
 /// The list that the next tokens spell. It keeps no more memory than it needs.
-pub(crate) fn list_of<T: Piece>(alloc: Global, reader: &mut Reader<'_>) -> Option<Vec<T>>
+pub fn list_of<T: Piece>(alloc: Global, reader: &mut Reader<'_>) -> Option<Vec<T>>
     ensures { IfSome result (λ v. Spells (list T.spelled) (suc T.deep) reader.old
         (map T.meaning v.items) reader.new) }
 {

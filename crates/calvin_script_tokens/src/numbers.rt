@@ -1,4 +1,4 @@
-//! The numbers of an operation.
+//! The numbers behind the name of an operation.
 ghost use Rattle.std.specs.Prelude.{IfSome};
 ghost use Rattle.calvin_script.specs.Numbers.{one_number, two_numbers, three_numbers};
 ghost use Rattle.calvin_script_tokens.specs.Spelled.{SpellsBehind};
@@ -6,9 +6,9 @@ ghost use Rattle.calvin_script_tokens.specs.Spelled.{SpellsBehind};
 use crate::tokens::{closes_array, number};
 use json::Reader;
 
-/// The number that follows the name of an operation.
+/// The number that follows the name of an operation or of an event, and nothing behind it.
 #[tactic(auto, using(crate::proofs::NumberTurns::one_spelled))]
-pub(crate) fn one_number(reader: &mut Reader<'_>) -> Option<u64>
+pub fn one_number(reader: &mut Reader<'_>) -> Option<u64>
     ensures { IfSome result (λ n. SpellsBehind one_number 0 reader.old n reader.new) }
 {
     let only = number(reader)?;

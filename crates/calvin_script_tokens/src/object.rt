@@ -8,7 +8,7 @@ use json::Reader;
 use std::alloc::Global;
 
 /// What is gathered from an object member by member.
-pub(crate) trait Object {
+pub trait Object {
     /// What was gathered is what these members spell.
     ghost holds: { Members → Self → Type 0 };
 
@@ -22,11 +22,7 @@ pub(crate) trait Object {
 }
 
 /// Reads an object, of which nothing was gathered before. Of a name that is given twice the last one counts.
-pub(crate) fn read_object<T: Object>(
-    alloc: Global,
-    reader: &mut Reader<'_>,
-    object: &mut T,
-) -> Option<()>
+pub fn read_object<T: Object>(alloc: Global, reader: &mut Reader<'_>, object: &mut T) -> Option<()>
     requires { T.holds no_members object.old }
     ensures { OnSome result (ObjectRead T.holds (suc T.deep) reader.old object.new reader.new) }
 {

@@ -3,7 +3,7 @@ ghost use Rattle.std.specs.Prelude.{◌≡◌, [], Some, IfSome};
 ghost use Rattle.serde_json.specs.Data.{Members, no_members, object};
 ghost use Rattle.calvin_script.specs.Requests.{request};
 ghost use Rattle.calvin_script_tokens.specs.Gathered.{HoldsRequest};
-ghost use Rattle.calvin_script_tokens.specs.Spelled.{SpellsOneMore};
+ghost use Rattle.calvin_script_tokens.specs.Spelled.{Spells, SpellsOneMore};
 
 use crate::keys::read_key_set;
 use crate::list::Piece;
@@ -182,6 +182,17 @@ impl<Op: OperationTokens> Object for RequestMembers<Op> {
     }
 }
 
+/// The request that the next tokens spell.
+#[inline(always)]
+pub fn request_at<Op: OperationTokens>(alloc: Global, reader: &mut Reader<'_>) -> Option<Kept<Op>>
+    ensures { IfSome result (λ r. Spells (request Op.grammar) 122 reader.old r reader.new) }
+{
+    let mut members = RequestMembers::new();
+    read_object(alloc, reader, &mut members)?;
+    let kept = members.finish(alloc)?;
+    Some(kept)
+}
+
 impl<Op: OperationTokens> Piece for Kept<Op> {
     ghost use Rattle.calvin_script.specs.declared.contents.Request.{Request};
     ghost use Rattle.calvin_script.specs.Requests.{request};
@@ -204,9 +215,7 @@ impl<Op: OperationTokens> Piece for Kept<Op> {
         reader: &mut Reader<'_>,
         found: &mut Vec<Kept<Op>>,
     ) -> Option<()> {
-        let mut members = RequestMembers::new();
-        read_object(alloc, reader, &mut members)?;
-        let kept = members.finish(alloc)?;
+        let kept = request_at(alloc, reader)?;
         let Ok(()) = found.push(kept) else {
             return None;
         };

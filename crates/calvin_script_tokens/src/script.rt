@@ -113,7 +113,7 @@ pub fn usual_script<Op: OperationTokens>(
 }
 
 /// The text that bytes are, if they are one.
-pub(crate) fn text_of(bytes: &[u8]) -> Option<&str>
+pub fn text_of(bytes: &[u8]) -> Option<&str>
     ensures { IfSome result (λ text. text.now ≡ bytes.now) }
 {
     simdutf8::compat::from_utf8(bytes).ok()

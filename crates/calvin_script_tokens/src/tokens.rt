@@ -122,8 +122,8 @@ pub(crate) fn u8_of(reader: &mut Reader<'_>) -> Option<u8>
     u8::try_from(n).ok()
 }
 
-/// The same as `number`, for the value of a member. It stands apart, so that what reads members stays small enough to be
-/// put in its callers.
+/// The same as `number`, for the value of a member and for a number of an event. It stands apart, so that what reads these
+/// stays small enough to be put in its callers.
 #[inline(never)]
 fn number_value(reader: &mut Reader<'_>) -> Option<u64>
     ensures { IfSome result (λ n. Reads 0 reader.old (number (unsigned n)) reader.new) }
@@ -131,29 +131,29 @@ fn number_value(reader: &mut Reader<'_>) -> Option<u64>
     number(reader)
 }
 
-/// The same as `u32_of`, for the value of a member.
+/// A whole number below 2^32, for the value of a member or a number of an event.
 #[inline(always)]
 #[tactic(auto, using(crate::proofs::Steps::below_spelled))]
-pub(crate) fn u32_value(reader: &mut Reader<'_>) -> Option<u32>
+pub fn u32_value(reader: &mut Reader<'_>) -> Option<u32>
     ensures { IfSome result (λ n. Spells (below (2 ^ 32)) 0 reader.old n reader.new) }
 {
     let value = number_value(reader)?;
     u32::try_from(value).ok()
 }
 
-/// The same as `u8_of`, for the value of a member.
+/// A whole number below 256, for the value of a member or a number of an event.
 #[inline(always)]
 #[tactic(auto, using(crate::proofs::Steps::below_spelled))]
-pub(crate) fn u8_value(reader: &mut Reader<'_>) -> Option<u8>
+pub fn u8_value(reader: &mut Reader<'_>) -> Option<u8>
     ensures { IfSome result (λ n. Spells (below (2 ^ 8)) 0 reader.old n reader.new) }
 {
     let value = number_value(reader)?;
     u8::try_from(value).ok()
 }
 
-/// The number of an epoch, which is below 2^48, for the value of a member.
+/// The number of an epoch, which is below 2^48, for the value of a member or a number of an event.
 #[tactic(auto, using(crate::proofs::Steps::below_spelled))]
-pub(crate) fn epoch_value(reader: &mut Reader<'_>) -> Option<u64>
+pub fn epoch_value(reader: &mut Reader<'_>) -> Option<u64>
     ensures { IfSome result (λ n. Spells (below MOST_EPOCHS) 0 reader.old n reader.new) }
 {
     let epoch = number_value(reader)?;
@@ -166,7 +166,7 @@ pub(crate) fn epoch_value(reader: &mut Reader<'_>) -> Option<u64>
 
 /// A whole number from the least to the most.
 #[tactic(auto, using(crate::proofs::Steps::between_spelled))]
-pub(crate) fn between(least: u8, most: u8, reader: &mut Reader<'_>) -> Option<u8>
+pub fn between(least: u8, most: u8, reader: &mut Reader<'_>) -> Option<u8>
     ensures { IfSome result (λ n. Spells (between least most) 0 reader.old n reader.new) }
 {
     let n = number(reader)?;
@@ -202,7 +202,7 @@ pub(crate) fn opens_object(reader: &mut Reader<'_>) -> Option<()>
 /// Whether an array ends here; then its bracket is taken.
 #[inline(always)]
 #[tactic(auto, using(json::proofs::Grammar::closed_array))]
-pub(crate) fn ends_array(reader: &mut Reader<'_>) -> bool
+pub fn ends_array(reader: &mut Reader<'_>) -> bool
     ensures ended { IsTrue result → reader.old ≡ token.end_array ∷ reader.new }
     ensures kept { IsFalse result → reader.new ≡ reader.old }
 {
