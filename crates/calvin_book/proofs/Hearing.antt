@@ -1,6 +1,6 @@
 -- The first reply to a submission, by how many packets had been sent.
 --     not_that, not_counted      where the event isn't the submission, a look finds none
---     counted_at      a count that was read
+--     read_at      what was read at a place
 --     found, not_found      what a look finds among the packets from the greater number on
 --     at_first      before the first packet there is none
 use Rattle.std.proofs.Common.{◌≡◌, ℕ, zero, suc, ◌<◌, false, ltb, List, [], length, take, drop, max, Some, None, refl, sym, ap, subst, ◌∙◌, arith, slice_get}
@@ -24,8 +24,8 @@ use Rattle.calvin_book.specs.Receipts.{IsSubmitEvent, sent_by, reply_of, IsUnhea
 use Rattle.calvin_book.proofs.Firsts.{from_later}
 use Rattle.calvin_book.proofs.Keeping.{after_is}
 
-pub counted_at : (seen sent : List ℕ) (k n : ℕ) → seen ≡ sent → k < length seen → n ≡ get_or seen k n → slice_get sent k ≡ Some n
-counted_at seen sent k n same within read = subst (λ (ns : List ℕ). slice_get ns k ≡ Some n) same (slice_get-get_or seen k n within ∙ ap Some (sym read))
+pub read_at : {X : Type 0} (seen sent : List X) (k : ℕ) (n : X) → seen ≡ sent → k < length seen → n ≡ get_or seen k n → slice_get sent k ≡ Some n
+read_at {X} seen sent k n same within read = subst (λ (ns : List X). slice_get ns k ≡ Some n) same (slice_get-get_or seen k n within ∙ ap Some (sym read))
 
 drop_none : {X : Type 0} (n : ℕ) → ◌≡◌ {A = List X} (drop n []) []
 drop_none zero = refl

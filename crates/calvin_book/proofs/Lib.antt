@@ -7,3 +7,4 @@ pub mod Same
 pub mod Hearing
 pub mod Submitting
 pub mod Ran
+pub mod Kept

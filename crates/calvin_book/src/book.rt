@@ -14,6 +14,7 @@ ghost use Rattle.calvin_world.specs.Worlds.{WorldState, node_at};
 ghost use Rattle.calvin_book.specs.Books.{IsRun, world_after, Applied, IsRefused};
 ghost use Rattle.calvin_book.specs.Receipts.{IsAbove, IsOpenTo, IsNotTaken, IsSubmitEvent, IsSubmitted, IsUnheard, IsLookedFor, IsAnswer};
 
+use crate::event_list::EventList;
 use crate::receipt::{Look, Submission};
 use crate::replies::first_reply;
 use calvin_app::{Answer, App, Computed, Job};
@@ -30,7 +31,7 @@ use std::marker::Model;
 #[derive(Drop)]
 pub struct Book<A: App + Drop, L: Locks + Drop, S: Rows<A::Row> + Drop> {
     world: World<A, L, S>,
-    events: Vec<Event<A::Args>>,
+    events: EventList<A::Args>,
     /// How many packets had been sent after each event.
     sent: Vec<usize>,
 }
@@ -61,16 +62,16 @@ impl<A: App + Drop, L: Locks + Drop, S: Rows<A::Row> + Drop> Book<A, L, S> {
         let world = World::new(alloc, config, app)?;
         Ok(Book {
             world,
-            events: Vec::new(alloc),
+            events: EventList::new(alloc),
             sent: Vec::new(alloc),
         })
     }
 
     /// The events, in the order in which they happened.
-    pub fn events(&self) -> &[Event<A::Args>]
-        ensures { result.now ≡ self.now.events }
+    pub fn events(&self) -> &EventList<A::Args>
+        ensures { result.now.items ≡ self.now.events }
     {
-        self.events.as_slice()
+        &self.events
     }
 
     /// The world that they led to. What is promised of every list of events (`World::run`) is promised of it.
@@ -98,10 +99,10 @@ impl<A: App + Drop, L: Locks + Drop, S: Rows<A::Row> + Drop> Book<A, L, S> {
         ensures err { OnErr result (self.new ≡ self.old) }
         ensures only { (fault : Fault) → result ≡ Err fault → IsRefused A.meaning self.old event.now fault }
     {
-        self.events.reserve(1)?;
+        self.events.reserve()?;
         self.sent.reserve(1)?;
         self.world.step(event)?;
-        self.events.push_reserved(*event);
+        self.events.push_reserved(event);
         self.sent.push_reserved(self.world.packets().len());
         Ok(())
     }
@@ -125,11 +126,11 @@ impl<A: App + Drop, L: Locks + Drop, S: Rows<A::Row> + Drop> Book<A, L, S> {
             → IsNotFinished self.old.config computed.now.job (node_at (world_after A.meaning self.old.config self.old.events) id) fault
             ⊎ (fault ≡ OutOfMemory) }
     {
-        self.events.reserve(1)?;
+        self.events.reserve()?;
         self.sent.reserve(1)?;
         self.world.finish_with(id, computed)?;
         self.events
-            .push_reserved(Event::At(id, Act::Finish(computed.job.place)));
+            .push_reserved(&Event::At(id, Act::Finish(computed.job.place)));
         self.sent.push_reserved(self.world.packets().len());
         Ok(())
     }
@@ -210,7 +211,7 @@ impl<A: App + Drop, L: Locks + Drop, S: Rows<A::Row> + Drop> Book<A, L, S> {
         ensures { MatchBool result (IsSubmitEvent self.now submission.now) (IsSubmitEvent self.now submission.now → ⊥) }
     {
         match self.events.get(submission.number) {
-            Some(event) => is_submission::<A>(event, submission),
+            Some(event) => is_submission::<A>(&event, submission),
             None => false,
         }
     }

@@ -61,7 +61,8 @@ fn go_same_way(one: &KvPacket, other: &KvPacket) -> bool {
 /// Whether two books have the same events, as many packets that go the same ways, and nodes that tell the same of themselves.
 pub(crate) fn is_alike(one: &KvBook, other: &KvBook) -> bool {
     let (world, beside) = (one.world(), other.world());
-    one.events() == other.events()
+    (0..one.events().len()).all(|number| one.events().get(number) == other.events().get(number))
+        && one.events().len() == other.events().len()
         && world.packets().len() == beside.packets().len()
         && world
             .packets()

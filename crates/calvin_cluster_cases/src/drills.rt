@@ -21,9 +21,9 @@ fn is_last_of(size: usize, number: usize) -> bool {
 /// The numbers of the packets that were delivered, ascending.
 fn delivered(alloc: Global, book: &StoreBook<Kv>) -> Result<Vec<usize>, Fault> {
     let mut numbers = Vec::new(alloc);
-    for event in book.events() {
-        if let Event::Deliver(number) = event {
-            numbers.push(*number)?;
+    for number in 0..book.events().len() {
+        if let Some(Event::Deliver(packet)) = book.events().get(number) {
+            numbers.push(packet)?;
         }
     }
     numbers.sort()?;
@@ -56,8 +56,8 @@ fn has_lost(book: &StoreBook<Kv>, size: usize) -> bool {
 fn restarts(book: &StoreBook<Kv>) -> (usize, usize) {
     let mut first = 0_usize;
     let mut others = 0_usize;
-    for event in book.events() {
-        if let Event::At(id, Act::Restart) = event {
+    for number in 0..book.events().len() {
+        if let Some(Event::At(id, Act::Restart)) = book.events().get(number) {
             if id.replica == 0 {
                 first = first.saturating_add(1);
             } else {

@@ -75,7 +75,7 @@ pub(crate) fn put_after_told<J: Founding, R: Wait + Abort>(
 /// What is left begins with what had happened before, goes on, and has what was put last.
 pub(crate) fn check_told(rt: &impl Abort, book: &StoreBook<Kv>) {
     for (number, event) in before().iter().enumerate() {
-        same(rt, book.events().get(number).copied(), Some(*event));
+        same(rt, book.events().get(number), Some(*event));
     }
     let row = book.world().peek(0, &Key { table: 0, id: 1 });
     same(rt, row, Some(4));

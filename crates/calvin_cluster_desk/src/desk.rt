@@ -5,7 +5,7 @@ ghost use Rattle.calvin_cluster_desk.specs.Receipts.{told_epoch};
 use crate::receipt::{Founding, Report, Ticket, Told};
 use crate::stopped::Stopped;
 use calvin_app::{Answer, App, Computed};
-use calvin_book::{Book, Look, unheard_at_first};
+use calvin_book::{Book, EventList, Look, unheard_at_first};
 use calvin_chronicle::{Mark, Naming, Pen};
 use calvin_lock::Locks;
 use calvin_node::Act;
@@ -38,12 +38,15 @@ impl<A: App + Drop, L: Locks + Drop, S: Rows<A::Row> + Drop, J: Founding> Model
 }
 
 /// Writes events one after another into a new history, and says whether that could be done.
-fn write_all<Args: Copy, J: Naming>(pen: &mut Pen<Event<Args>, J>, events: &[Event<Args>]) -> bool
+fn write_all<Args: Copy, J: Naming>(pen: &mut Pen<Event<Args>, J>, events: &EventList<Args>) -> bool
     requires { pen.old ≡ [] }
-    ensures { IsTrue result → pen.new ≡ events.now }
+    ensures { IsTrue result → pen.new ≡ events.now.items }
 {
-    for event in events {
-        if !pen.write(event) {
+    for number in 0..events.len() {
+        let Some(event) = events.get(number) else {
+            return true;
+        };
+        if !pen.write(&event) {
             return false;
         }
     }

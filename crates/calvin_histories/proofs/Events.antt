@@ -1,7 +1,7 @@
 -- Which event an entry is, and that it is no other one.
 --     is_own      an own event of a node
 --     Delivered, delivered      an event in which a packet came is the delivery of the one with its name
---     read_at, read_in, past_all      the packet of a number, and a number past all
+--     read_at, past_all      the packet of a number, and a number past all
 --     none_named, other_address, other_packet      where there is none
 --     is_delivery      where there is one
 --     counts, at_from, from_at      the names of packets, by who sent them
@@ -36,9 +36,6 @@ some_is e = cc
 -- what was read at a number
 pub read_at : {X : Type 0} (xs seen : List X) → seen ≡ xs → (n : ℕ) (x : X) → n < length seen → x ≡ get_or seen n x → slice_get xs n ≡ Some x
 read_at xs seen same n x within is = ap (λ ys. slice_get ys n) (sym same) ∙ slice_get-get_or seen n x within ∙ ap Some (sym is)
-
-pub read_in : {X : Type 0} (xs seen : List X) → seen ≡ xs → (n : ℕ) (x : X) → n < length xs → x ≡ get_or seen n x → slice_get xs n ≡ Some x
-read_in xs seen same n x within is = read_at xs seen same n x (subst (λ ys. n < length ys) (sym same) within) is
 
 -- an address that is for a node is the node's
 pub for_node : (to : Address) (id : NodeId) → is_for to id ≡ true → to ≡ AtNode id

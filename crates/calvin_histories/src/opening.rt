@@ -91,7 +91,8 @@ fn happen_again<A: App + Drop, L: Locks + Drop, S: Rows<A::Row> + Drop>(
     ensures after { OnOk result (AreLockedOf A.meaning (record { config = book.now.config; events = take (number + 1) book.now.events }) nodes.new.items) }
     ensures only { IsOkUnless result Fault.OutOfMemory }
 {
-    let Some((id, entry)) = entry_at(book.world(), names, &book.events()[number])? else {
+    let event = book.events().get(number).unwrap();
+    let Some((id, entry)) = entry_at(book.world(), names, &event)? else {
         return Ok(());
     };
     let at = id.replica as usize * config.partitions as usize + id.partition as usize;

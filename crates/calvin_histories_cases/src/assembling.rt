@@ -26,11 +26,9 @@ fn assembled(
         Ok(book) => book,
         Err(why) => return Ok(Err(why)),
     };
-    let mut events = Vec::new(alloc);
-    let copied = events.extend_from_slice(book.events());
+    let events = book.events().to_vec(alloc);
     give_back(book);
-    copied?;
-    Ok(Ok(events))
+    Ok(Ok(events?))
 }
 
 fn at_first(act: Act<KvRequest>) -> Event<KvRequest> {

@@ -14,15 +14,15 @@ fn key(id: u64) -> Key {
     Key { table: 0, id }
 }
 
-/// The act of this number of a node, from 0.
-fn act_of(book: &StoreBook<Kv>, id: NodeId, number: u32) -> Option<Act<KvRequest>> {
-    let mut left = number;
-    for event in book.events() {
-        if let Event::At(at, act) = event {
-            if *at == id && left == 0 {
-                return Some(*act);
+/// The act of a node with so many before it.
+fn act_of(book: &StoreBook<Kv>, id: NodeId, before: u32) -> Option<Act<KvRequest>> {
+    let mut left = before;
+    for number in 0..book.events().len() {
+        if let Some(Event::At(at, act)) = book.events().get(number) {
+            if at == id && left == 0 {
+                return Some(act);
             }
-            if *at == id {
+            if at == id {
                 left = left.saturating_sub(1);
             }
         }

@@ -53,7 +53,7 @@ pub(crate) fn call_each<J: WideFounding, R: Wait + Abort>(
 /// The list begins with what had happened before, and what was put last is there.
 pub(crate) fn check_begun(rt: &impl Abort, book: &StoreBook<Kv>) {
     for (number, event) in before().iter().enumerate() {
-        same(rt, book.events().get(number).copied(), Some(*event));
+        same(rt, book.events().get(number), Some(*event));
     }
     let row = book.world().peek(0, &Key { table: 0, id: 1 });
     same(rt, row, Some(6));

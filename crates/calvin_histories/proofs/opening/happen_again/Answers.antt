@@ -11,7 +11,6 @@ use Rattle.calvin_world.proofs.InCode.{index_within}
 use Rattle.calvin_histories.specs.Locked.{IsNoEntry, AreLockedOf}
 use Rattle.calvin_histories.specs.Positions.{AreNamed}
 use Rattle.calvin_histories.proofs.EntrySizes.{an_entry}
-use Rattle.calvin_histories.proofs.Events.{read_in}
 use Rattle.calvin_histories.proofs.Finding.{on_ok}
 use Rattle.calvin_histories.proofs.Replaying.{first_of, some_entry, replays, replayed_more}
 use Rattle.calvin_histories.proofs.opening.happen_again.Goals as goal
@@ -26,15 +25,15 @@ pub returns-in_default-clause-after : goal.returns-in_default-clause-after
 returns-in_default-clause-after g c =
     let log = c.args.book.now in
     let k = c.args.number in
-    let event = c.index-events-number.result in
-    absurd (some_entry g.A.App.meaning g.met.A.App.lawful.writes_within_the_sets log c.world.result.now c.world.ensures.run k event (read_in log.events c.events.result.now c.events.ensures k event c.requires.there c.index-events-number.is) (sym c.in_ok-id.ensures.entry ∙ c.in_default.is))
+    let event = c.unwrap-event.result in
+    absurd (some_entry g.A.App.meaning g.met.A.App.lawful.writes_within_the_sets log c.world.result.now c.world.ensures.run k event (ap (λ es. slice_get es k) (sym c.events.ensures) ∙ sym c.get.ensures ∙ c.unwrap-event.ensures) (sym c.in_ok-id.ensures.entry ∙ c.in_default.is))
 
 pub index_mut-requires : goal.index_mut-requires
 index_mut-requires g c =
     let log = c.args.book.now in
     let k = c.args.number in
-    let event = c.index-events-number.result in
-    let there = read_in log.events c.events.result.now c.events.ensures k event c.requires.there c.index-events-number.is in
+    let event = c.unwrap-event.result in
+    let there = ap (λ es. slice_get es k) (sym c.events.ensures) ∙ sym c.get.ensures ∙ c.unwrap-event.ensures in
     let r = replays g.A.App.meaning g.met.A.App.lawful.writes_within_the_sets log c.world.result.now c.world.ensures.run k event there c.in-Some.id c.in-Some.entry (sym c.in-Some.is ∙ c.in_ok-id.ensures.entry) in
     let place : index_of log.config.partitions c.in-Some.id ≡ c.in-Some.id.replica * c.args.config.now.partitions + c.in-Some.id.partition = ap (λ (d : Config). index_of d.partitions c.in-Some.id) c.requires.config in
     let within = index_within log.config.partitions log.config.replicas c.in-Some.id r.replica r.partition in
@@ -50,8 +49,8 @@ returns-clause-after g c =
     let m = g.A.App.meaning in
     let log = c.args.book.now in
     let k = c.args.number in
-    let event = c.index-events-number.result in
-    let there = read_in log.events c.events.result.now c.events.ensures k event c.requires.there c.index-events-number.is in
+    let event = c.unwrap-event.result in
+    let there = ap (λ es. slice_get es k) (sym c.events.ensures) ∙ sym c.get.ensures ∙ c.unwrap-event.ensures in
     let id = c.in-Some.id in
     let r = replays m g.met.A.App.lawful.writes_within_the_sets log c.world.result.now c.world.ensures.run k event there id c.in-Some.entry (sym c.in-Some.is ∙ c.in_ok-id.ensures.entry) in
     let nodes = c.args.nodes.now.items in
@@ -69,8 +68,8 @@ returns-clause-only g c =
     let m = g.A.App.meaning in
     let log = c.args.book.now in
     let k = c.args.number in
-    let event = c.index-events-number.result in
-    let there = read_in log.events c.events.result.now c.events.ensures k event c.requires.there c.index-events-number.is in
+    let event = c.unwrap-event.result in
+    let there = ap (λ es. slice_get es k) (sym c.events.ensures) ∙ sym c.get.ensures ∙ c.unwrap-event.ensures in
     let id = c.in-Some.id in
     let r = replays m g.met.A.App.lawful.writes_within_the_sets log c.world.result.now c.world.ensures.run k event there id c.in-Some.entry (sym c.in-Some.is ∙ c.in_ok-id.ensures.entry) in
     let nodes = c.args.nodes.now.items in

@@ -28,4 +28,4 @@ happen_again-requires-clause-names g c =
 
 pub returns-clause-nodes : goal.returns-clause-nodes
 returns-clause-nodes g c =
-    replayed_all g.A.App.meaning c.args.book.now c.loop-number.number (let past = c.loop-number-test.false in let same = ap length c.events-number-end.ensures in omega (arith, past, same)) c.loop-number.nodes.items c.loop-number.invariant
+    replayed_all g.A.App.meaning c.args.book.now c.loop-number.number (let past = c.loop-number-test.false in let number = c.len-number-end.ensures in let same = ap length c.events.ensures in omega (arith, past, number, same)) c.loop-number.nodes.items c.loop-number.invariant
