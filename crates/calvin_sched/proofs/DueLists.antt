@@ -113,6 +113,16 @@ module _ {Args : Type 0} (here : Site) where
       ∙ map-append (λ f. f.0) (filter (λ f. has_local_key here f.1) (take i order)) (filter (λ f. has_local_key here f.1) (drop i order)) in
       omega (arith, ap length all, length-append (local_places here (take i order)) (local_places here (drop i order)))
 
+  -- there are no more than requests
+  pub places_at_most : (order : Order Args) → length (local_places here order) ≤ length order
+  places_at_most [] = omega arith
+  places_at_most (e ∷ order) = go (has_local_key here e.1) (places_at_most order)
+    where
+      go : (b : Bool) → length (local_places here order) ≤ length order
+          → length (map (λ (f : Place × Txn Args). f.0) (cond b (e ∷ filter (λ f. has_local_key here f.1) order) (filter (λ f. has_local_key here f.1) order))) ≤ length (e ∷ order)
+      go true le = omega (arith, le)
+      go false le = omega (arith, le)
+
   -- there are some where a request has a key here
   pub some_local : (order : Order Args) → 0 < length (local_places here order) → list_any (λ e. has_local_key here e.1) order ≡ true
   some_local [] h = absurd (omega (arith, h))

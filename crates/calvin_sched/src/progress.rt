@@ -13,14 +13,16 @@ use calvin_types::{Config, Fault, Place, Txn};
 use std::alloc::Global;
 use std::collections::VecDeque;
 
-/// How many epochs are merged; one more than the greatest epoch of which anything is done, or 0; and the places at which
-/// requests of merged epochs are due, from the first one on that isn't done, with the room that was reserved for more.
+/// How many epochs are merged; one more than the greatest epoch of which anything is done, or 0; the places at which
+/// requests of merged epochs are due, from the first one on that isn't done, with the room that was reserved for more; and
+/// how many places were dropped before these, which is about where the first of them stands among the admitted requests.
 #[derive(Drop)]
 pub(crate) struct Progress {
     pub merged: u128,
     pub done: u128,
     pub due: VecDeque<Place>,
     pub room: usize,
+    pub dropped: usize,
 }
 
 impl Progress {
@@ -37,6 +39,7 @@ impl Progress {
             done: 0,
             due: VecDeque::new(alloc),
             room: 0,
+            dropped: 0,
         }
     }
 
@@ -83,7 +86,7 @@ impl Progress {
         ensures { result ≡ passes_first (done_at opened turns.now.kept) self.now.due.items }
     {
         match self.due.front() {
-            Some(place) => is_done(*place, opened, turns),
+            Some(place) => is_done(*place, opened, turns, self.dropped),
             None => false,
         }
     }
@@ -99,6 +102,7 @@ impl Progress {
     {
         while self.is_first_done(opened, turns) {
             let _done = self.due.pop_front();
+            self.dropped = self.dropped.saturating_add(1);
         }
     }
 
@@ -139,6 +143,32 @@ impl Progress {
         Ok(())
     }
 
+    /// The same as `reserve`, or room for the places of all these requests where that is there: then they aren't counted.
+    pub fn reserve_for_all<Args: Copy>(
+        &mut self,
+        entries: &[(Place, Txn<Args>)],
+        config: &Config,
+        partition: u8,
+    ) -> Result<(), Fault>
+        requires { HasReserved self.old }
+        ensures merged { self.new.merged ≡ self.old.merged }
+        ensures done { self.new.done ≡ self.old.done }
+        ensures due { self.new.due.items ≡ self.old.due.items }
+        ensures reserved { HasReserved self.new }
+        ensures ok { OnOk result (length (local_places (site config.now.partitions partition) entries.now) ≤ self.new.room) }
+        ensures err { OnErr result (self.new.room ≡ self.old.room) }
+        ensures refused { IfErr result (λ fault. (fault ≡ Fault.OutOfMemory) × (self.old.room < length (local_places (site config.now.partitions partition) entries.now))) }
+    {
+        if entries.len() <= self.room {
+            return Ok(());
+        }
+        if self.due.reserve(entries.len()).is_ok() {
+            self.room = entries.len();
+            return Ok(());
+        }
+        self.reserve(entries, config, partition)
+    }
+
     /// An epoch is merged and has these requests: the places of those with a key that is stored in the partition are due.
     /// The room that was reserved for them is taken.
     pub fn merge<Args: Copy>(
@@ -166,11 +196,11 @@ impl Progress {
     }
 }
 
-/// Whether a place is done, or counts as done.
-fn is_done<A: App>(place: Place, opened: u128, turns: &Turns<A>) -> bool
+/// Whether a place is done, or counts as done. Its request is looked for first with `near` before it or one more.
+fn is_done<A: App>(place: Place, opened: u128, turns: &Turns<A>, near: usize) -> bool
     ensures { result ≡ done_at opened turns.now.kept place }
 {
-    is_of_first(place, opened) || turns.is_done(place)
+    is_of_first(place, opened) || turns.is_done(place, near)
 }
 
 /// Whether a place is of one of the first epochs.

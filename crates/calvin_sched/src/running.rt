@@ -80,6 +80,25 @@ impl<A: App, L: Locks + Drop, S: Rows<A::Row> + Drop> Scheduler<A, L, S> {
         ensures rest { self.new ≡ record self.old { scheduling = self.new.scheduling; room = self.new.room; due = self.new.due } }
         ensures due { self.new.due ≡ left self.new.scheduling self.old.due }
     {
+        self.seek(place);
+        self.run_found(place, app, answer)
+    }
+
+    /// The same as `run`, wherever the request is looked for first.
+    fn run_found(
+        &mut self,
+        place: Place,
+        app: &A,
+        answer: &mut Answer<A::Reply>,
+    ) -> Result<(RequestId, u8), Fault>
+        ensures ok { IfOk result (λ name. (j : Job A.Args A.Row) × (steps.job self.old.here place self.old.scheduling ≡ Ok j) × (name ≡ (j.txn.id, j.txn.attempt))
+            × (answer.new ≡ answer_on A.meaning j.txn j.view) × (self.new.scheduling ≡ steps.after_job A.meaning self.old.here j self.old.scheduling)) }
+        ensures err { OnErr result (self.new.scheduling ≡ self.old.scheduling) }
+        ensures refused { IfErr result (IsNotRun A.meaning self.old.here self.old.room (steps.job self.old.here place self.old.scheduling)) }
+        ensures room { OnErr result (self.old.room ≤ self.new.room) }
+        ensures rest { self.new ≡ record self.old { scheduling = self.new.scheduling; room = self.new.room; due = self.new.due } }
+        ensures due { self.new.due ≡ left self.new.scheduling self.old.due }
+    {
         let mut writes = Writes::new();
         let name = self.compute(place, app, answer, &mut writes)?;
         if are_local::<A>(&writes, &self.config, self.partition) {

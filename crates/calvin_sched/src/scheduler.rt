@@ -224,6 +224,23 @@ impl<A: App, L: Locks + Drop, S: Rows<A::Row> + Drop> Scheduler<A, L, S> {
         ensures rest { self.new ≡ record self.old { scheduling = self.new.scheduling; due = self.new.due } }
         ensures due { self.new.due ≡ left self.new.scheduling self.old.due }
     {
+        self.seek(place);
+        self.begin_found(place)
+    }
+
+    /// Has the request at a place, if there is one, found at once by what looks for it next.
+    pub(crate) fn seek(&mut self, place: Place)
+        ensures { self.new ≡ self.old }
+    {
+        self.turns.seek(place);
+    }
+
+    /// The same as `begin_in_place`, wherever the request is looked for first.
+    fn begin_found(&mut self, place: Place) -> Result<(), Fault>
+        ensures did { Did false result (steps.silently (steps.begin self.old.here place self.old.scheduling)) self.old.scheduling self.new.scheduling }
+        ensures rest { self.new ≡ record self.old { scheduling = self.new.scheduling; due = self.new.due } }
+        ensures due { self.new.due ≡ left self.new.scheduling self.old.due }
+    {
         let is_active = self.ready_to_begin(place)?;
         self.turns
             .begin(place, &self.config, self.partition, &self.rows);
@@ -367,7 +384,7 @@ impl<A: App, L: Locks + Drop, S: Rows<A::Row> + Drop> Scheduler<A, L, S> {
             return Err(Fault::AdmittedOutOfOrder);
         }
         self.progress
-            .reserve(entries, &self.config, self.partition)?;
+            .reserve_for_all(entries, &self.config, self.partition)?;
         self.progress
             .merge(epoch, entries, &self.config, self.partition);
         self.progress.skip_done(self.opened, &self.turns);

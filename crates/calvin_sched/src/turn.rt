@@ -125,10 +125,16 @@ impl<A: App> Turn<A> {
         !self.came.has(from)
     }
 
-    /// Of how many partitions rows are still to come.
+    /// Of how many partitions rows are still to come: none, where all keys that it reads are stored here, or it isn't run here.
     pub(crate) fn count_awaited(&self, config: &Config, partition: u8) -> usize
         ensures { result ≡ length (awaited (site config.now.partitions partition) self.now.turn) }
     {
+        if self.are_reads_here(config, partition) {
+            return 0;
+        }
+        if !self.txn().is_active(config, partition) {
+            return 0;
+        }
         let mut count = 0;
         for from in 0..config.partitions {
             if self.awaits(config, partition, from) {
@@ -189,13 +195,7 @@ impl<A: App> Turn<A> {
     fn are_reads_here(&self, config: &Config, partition: u8) -> bool
         ensures { result ≡ list_all (is_local (site config.now.partitions partition)) self.now.turn.request.sets.reads }
     {
-        let keys = self.reads();
-        for i in 0..keys.len() {
-            if config.partition_of(&keys.at(i)) != partition {
-                return false;
-            }
-        }
-        true
+        are_here(self.reads(), config, partition)
     }
 
     /// The rows of all keys that are read.
@@ -237,12 +237,29 @@ impl<A: App> Turn<A> {
         others
     }
 
-    /// Whether it reads a key that is stored here, and another partition runs it too.
+    /// Whether it reads a key that is stored here, and another partition runs it too: where it writes a key elsewhere, or takes
+    /// part at a partition of lesser number.
     pub(crate) fn serves_others(&self, config: &Config, partition: u8) -> bool
         ensures { result ≡ serves_others (site config.now.partitions partition) (Some self.now.turn) }
     {
-        self.job.txn.sets.reads.has_local(config, partition)
-            && self.others(config, partition).len() > 0
+        let txn = self.txn();
+        if !txn.sets.reads.has_local(config, partition) {
+            return false;
+        }
+        if !are_here(&txn.sets.writes, config, partition) {
+            return true;
+        }
+        !txn.is_least_participant(config, partition)
+    }
+
+    /// Reads what is stored here.
+    pub(crate) fn read<S: Rows<A::Row>>(&mut self, config: &Config, partition: u8, rows: &S)
+        ensures turn { self.new.turn ≡ record self.old.turn { served = view (S.store rows.now).map (local_keys (site config.now.partitions partition) self.old.turn.request.sets.reads) } }
+        ensures room { self.new.room ≡ self.old.room }
+    {
+        let keys = self.reads().part(config, partition);
+        self.job.view.clear();
+        look_up(&Reading { rows }, &keys, &mut self.job.view);
     }
 
     /// Reads what is stored here. Where the request is passive here it is done, as others run it.
@@ -250,10 +267,8 @@ impl<A: App> Turn<A> {
         ensures turn { self.new.turn ≡ begun_turn (site config.now.partitions partition) (S.store rows.now).map self.old.turn }
         ensures room { self.new.room ≡ self.old.room }
     {
-        let keys = self.reads().part(config, partition);
         let is_active = self.txn().is_active(config, partition);
-        self.job.view.clear();
-        look_up(&Reading { rows }, &keys, &mut self.job.view);
+        self.read(config, partition, rows);
         self.phase = phase_after_reading(is_active);
     }
 
@@ -284,6 +299,18 @@ impl<A: App> Turn<A> {
     {
         self.phase = Phase::Done;
     }
+}
+
+/// Whether all of these keys are stored in a partition.
+fn are_here(keys: &KeySet, config: &Config, partition: u8) -> bool
+    ensures { result ≡ list_all (is_local (site config.now.partitions partition)) keys.now }
+{
+    for i in 0..keys.len() {
+        if config.partition_of(&keys.at(i)) != partition {
+            return false;
+        }
+    }
+    true
 }
 
 /// How far a request is once it has read what is stored here: a passive one is done.

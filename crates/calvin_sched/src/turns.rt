@@ -1,5 +1,5 @@
 //! The admitted requests by their places.
-ghost use Rattle.std.specs.Prelude.{◌≡◌, ◌↔◌, ◌-◌, ◌<◌, None, Some, slice_get, max, IsOk, IsSome, IsTrue, OnOk, OnErr, IsOkUnless, MatchOption};
+ghost use Rattle.std.specs.Prelude.{◌≡◌, ◌↔◌, ◌-◌, ◌<◌, None, Some, slice_get, max, IfSome, IsOk, IsSome, IsTrue, OnOk, OnErr, IsOkUnless, MatchOption};
 ghost use Rattle.std.specs.Option.{ForSome, option_copied};
 ghost use Rattle.std.specs.FinMap as map;
 ghost use Rattle.calvin_types.specs.Participants.{site};
@@ -18,12 +18,13 @@ use std::alloc::Global;
 use std::marker::Model;
 
 /// At most one admitted request at each place. Room for one more can be reserved. They stand in the order in which they were
-/// put, and one is looked for first where one was changed last, and behind that: most of them begin, are run and are finished
-/// in this order.
+/// put, and one is looked for first where one was looked for last, then where rows came last, and behind each of these: most
+/// of them begin, are run and are finished in this order, and so rows come.
 #[derive(Drop)]
 pub struct Turns<A: App> {
     turns: IndexMap<Place, Turn<A>>,
     near: usize,
+    near_came: usize,
     room: usize,
 }
 
@@ -54,10 +55,9 @@ fn is_at<A: App>(turns: &IndexMap<Place, Turn<A>>, number: usize, place: Place) 
     }
 }
 
-/// How many requests stand before the one at a place, if that is there. It is looked for first with `near` before it, and then
-/// with one more.
-fn number_of<A: App>(turns: &IndexMap<Place, Turn<A>>, place: Place, near: usize) -> Option<usize>
-    ensures { MatchOption result (map.get (map.from_entries {R = place_cmp} turns.now.entries) place ≡ None) (λ i. (k : Kept A.Args A.Row) × (slice_get turns.now.entries i ≡ Some (place, k))) }
+/// How many requests stand before the one at a place, where these are `near` or one more.
+fn number_near<A: App>(turns: &IndexMap<Place, Turn<A>>, place: Place, near: usize) -> Option<usize>
+    ensures { IfSome result (λ i. (k : Kept A.Args A.Row) × (slice_get turns.now.entries i ≡ Some (place, k))) }
 {
     if is_at(turns, near, place) {
         return Some(near);
@@ -65,6 +65,25 @@ fn number_of<A: App>(turns: &IndexMap<Place, Turn<A>>, place: Place, near: usize
     let next = near.saturating_add(1);
     if is_at(turns, next, place) {
         return Some(next);
+    }
+    None
+}
+
+/// How many requests stand before the one at a place, if that is there. It is looked for first with `near` before it or one
+/// more, and then so with `other`.
+fn number_of<A: App>(
+    turns: &IndexMap<Place, Turn<A>>,
+    place: Place,
+    near: usize,
+    other: usize,
+) -> Option<usize>
+    ensures { MatchOption result (map.get (map.from_entries {R = place_cmp} turns.now.entries) place ≡ None) (λ i. (k : Kept A.Args A.Row) × (slice_get turns.now.entries i ≡ Some (place, k))) }
+{
+    if let Some(number) = number_near(turns, place, near) {
+        return Some(number);
+    }
+    if let Some(number) = number_near(turns, place, other) {
+        return Some(number);
     }
     let (number, _, _) = turns.get_full(&place)?;
     Some(number)
@@ -78,6 +97,7 @@ impl<A: App> Turns<A> {
         Turns {
             turns: IndexMap::new(alloc),
             near: 0,
+            near_came: 0,
             room: 0,
         }
     }
@@ -86,16 +106,33 @@ impl<A: App> Turns<A> {
     pub fn get(&self, place: Place) -> Option<&Turn<A>>
         ensures { option_copied result ≡ map.get self.now.kept place }
     {
-        let number = number_of(&self.turns, place, self.near)?;
+        self.get_near(place, self.near)
+    }
+
+    /// The request at a place, which is looked for first with `near` before it or one more.
+    fn get_near(&self, place: Place, near: usize) -> Option<&Turn<A>>
+        ensures { option_copied result ≡ map.get self.now.kept place }
+    {
+        let number = number_of(&self.turns, place, near, self.near_came)?;
         let (_, turn) = self.turns.get_index(number)?;
         Some(turn)
     }
 
-    /// Whether the request at a place is done; false where none is there.
-    pub fn is_done(&self, place: Place) -> bool
+    /// Has the request at a place, if there is one, found at once where it is looked for next.
+    pub fn seek(&mut self, place: Place)
+        ensures { self.new ≡ self.old }
+    {
+        if let Some(number) = number_of(&self.turns, place, self.near, self.near_came) {
+            self.near = number;
+        }
+    }
+
+    /// Whether the request at a place is done; false where none is there. It is looked for first with `near` before it or one
+    /// more.
+    pub fn is_done(&self, place: Place, near: usize) -> bool
         ensures { result ≡ turn_done (map.get (turns_of self.now.kept) place) }
     {
-        match self.get(place) {
+        match self.get_near(place, near) {
             Some(turn) => turn.is_done(),
             None => false,
         }
@@ -133,7 +170,7 @@ impl<A: App> Turns<A> {
                   (record { turn = begun_turn (site config.now.partitions partition) (S.store rows.now).map k.turn; room = k.room });
             }) }
     {
-        let Some(number) = number_of(&self.turns, place, self.near) else {
+        let Some(number) = number_of(&self.turns, place, self.near, self.near_came) else {
             return;
         };
         self.near = number;
@@ -147,10 +184,10 @@ impl<A: App> Turns<A> {
         ensures { ForSome (map.get self.old.kept place) (λ k. self.new ≡ record
             self.old { kept = map.insert self.old.kept place (record { turn = with_rows from rows.now k.turn; room = k.room - 1 }) }) }
     {
-        let Some(number) = number_of(&self.turns, place, self.near) else {
+        let Some(number) = number_of(&self.turns, place, self.near_came, self.near) else {
             return;
         };
-        self.near = number;
+        self.near_came = number;
         let (_, turn) = self.turns.pair_mut(number);
         turn.receive(from, rows);
     }
@@ -159,7 +196,7 @@ impl<A: App> Turns<A> {
     pub fn finish(&mut self, place: Place)
         ensures { ForSome (map.get self.old.kept place) (λ k. self.new ≡ record self.old { kept = map.insert self.old.kept place (record { turn = record k.turn { phase = Done }; room = k.room }) }) }
     {
-        let Some(number) = number_of(&self.turns, place, self.near) else {
+        let Some(number) = number_of(&self.turns, place, self.near, self.near_came) else {
             return;
         };
         self.near = number;

@@ -49,7 +49,21 @@ pub(crate) fn happen_at<A: App + Drop>(
     ensures want { OnErr result (LeadsToWant A.meaning Never everyone world.old world.new) }
     ensures only { IsOkUnless result Fault.OutOfMemory }
 {
-    attempt(world, &Event::At(id, act))
+    happen(world, &Event::At(id, act))
+}
+
+/// The same of an event that stands somewhere, which isn't a delivery of a lost packet.
+pub(crate) fn happen<A: App + Drop>(
+    world: &mut StoreWorld<A>,
+    event: &Event<A::Args>,
+) -> Result<Outcome, Fault>
+    requires allowed { is_allowed Never event.now ≡ true }
+    requires kept { is_lossy everyone world.old.packets event.now ≡ false }
+    ensures quiet { OnOk result (LeadsQuietly A.meaning Never everyone world.old world.new) }
+    ensures want { OnErr result (LeadsToWant A.meaning Never everyone world.old world.new) }
+    ensures only { IsOkUnless result Fault.OutOfMemory }
+{
+    attempt(world, event)
 }
 
 /// Delivers the packet of a number, if it is for a node and not of the replica whose packets are lost. Says which node it reached,

@@ -6,11 +6,11 @@ ghost use Rattle.calvin_sim_events.specs.Passes.{IsRedelivery, Repeats};
 ghost use Rattle.calvin_sim_events.specs.Quiet.{everyone, LeadsQuietly, LeadsToWant};
 
 use crate::schedule::Schedule;
-use crate::stepping::{deliver, happen_at, sent};
+use crate::stepping::{deliver, happen, happen_at, sent};
 use calvin_app::App;
 use calvin_node::Act;
 use calvin_types::{Config, Fault, NodeId, Place};
-use calvin_world::{Outcome, StoreWorld};
+use calvin_world::{Event, Outcome, StoreWorld};
 use std::alloc::Global;
 
 /// A node, and whether something reached it since it last worked.
@@ -213,15 +213,17 @@ fn work_at<A: App + Drop>(world: &mut StoreWorld<A>, id: NodeId) -> Result<bool,
     Ok(merged)
 }
 
-/// All that a node merged asks for its locks, one after another, until none is left: so 2^64 times are enough.
+/// All that a node merged asks for its locks, one after another, until none is left: so 2^64 times are enough. The event is
+/// made once, since it has room for a request.
 #[tactic(auto, using(crate::proofs::Leading::quiet_here, crate::proofs::Leading::quiet_then, crate::proofs::Leading::want_then))]
 fn lock_all<A: App + Drop>(world: &mut StoreWorld<A>, id: NodeId) -> Result<(), Fault>
     ensures quiet { OnOk result (LeadsQuietly A.meaning Never everyone world.old world.new) }
     ensures want { OnErr result (LeadsToWant A.meaning Never everyone world.old world.new) }
     ensures only { IsOkUnless result Fault.OutOfMemory }
 {
+    let lock = Event::At(id, Act::Lock);
     for _ in 0..u64::MAX {
-        let Outcome::Done = happen_at(world, id, Act::Lock)? else {
+        let Outcome::Done = happen(world, &lock)? else {
             break;
         };
     }

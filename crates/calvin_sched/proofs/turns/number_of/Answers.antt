@@ -7,12 +7,6 @@ use Rattle.calvin_sched.specs.Keeping.{Kept}
 use Rattle.calvin_sched.proofs.PlaceMaps.{place_eq, place_eq_exact, got}
 use Rattle.calvin_sched.proofs.turns.number_of.Goals as goal
 
-pub returns-then-is_at : goal.returns-then-is_at
-returns-then-is_at g c = c.is_at.ensures.0 c.if-is_at.true
-
-pub returns-then-is_at-2 : goal.returns-then-is_at-2
-returns-then-is_at-2 g c = c.is_at-2.ensures.0 c.if-is_at-2.true
-
 pub returns-in_err-number : goal.returns-in_err-number
 returns-in_err-number g c =
     let es = c.args.turns.now.entries in

@@ -19,25 +19,25 @@ invariant_of-self-2 g c =
       c.self.invariant.0,
       progress_merged c.self.inside.opened c.self.inside.last c.self.inside.turns.kept c.self.inside.progress.merged c.self.inside.progress.done c.self.inside.progress.due.items c.self.invariant.1 here c.args.entries.now c.args.epoch
           (eqb-true c.args.epoch c.self.inside.progress.merged next.0) c.ranges.epoch.fits next.1 c.skip_done.new.self.merged c.skip_done.new.self.done c.merge.new.self.due.items c.skip_done.new.self.due.items
-          (c.skip_done.ensures.merged ∙ c.merge.ensures.merged) (c.skip_done.ensures.done ∙ c.merge.ensures.done ∙ c.in_ok-reserve.ensures.done)
-          (c.merge.ensures.due ∙ ap (λ l. l ++ local_places here c.args.entries.now) c.in_ok-reserve.ensures.due) c.skip_done.ensures.due,
+          (c.skip_done.ensures.merged ∙ c.merge.ensures.merged) (c.skip_done.ensures.done ∙ c.merge.ensures.done ∙ c.in_ok-reserve_for_all.ensures.done)
+          (c.merge.ensures.due ∙ ap (λ l. l ++ local_places here c.args.entries.now) c.in_ok-reserve_for_all.ensures.due) c.skip_done.ensures.due,
       c.skip_done.ensures.reserved,
     )
 
-pub returns-in_err-reserve-clause-did : goal.returns-in_err-reserve-clause-did
-returns-in_err-reserve-clause-did g c =
+pub returns-in_err-reserve_for_all-clause-did : goal.returns-in_err-reserve_for_all-clause-did
+returns-in_err-reserve_for_all-clause-did g c =
     let here = site c.self.inside.config.partitions c.self.inside.partition in
     let s = scheduling_of c.self.inside.opened c.self.inside.last c.self.inside.turns.kept (g.S.Rows.store c.self.inside.rows) in
     let n = c.self.inside.progress.merged in
     let es = c.args.entries.now in
     let old : Scheduled g.row.A-Args.Denot g.row.A-Row.Denot = record { here = here; scheduling = s; room = g.S.Rows.room c.self.inside.rows; merged = n; due = left s c.self.inside.progress.due.items; due_room = c.self.inside.progress.room } in
-    let new : Scheduled g.row.A-Args.Denot g.row.A-Row.Denot = record { here = here; scheduling = s; room = g.S.Rows.room c.self.inside.rows; merged = c.reserve.new.self.merged; due = left s c.reserve.new.self.due.items; due_room = c.reserve.new.self.room } in
+    let new : Scheduled g.row.A-Args.Denot g.row.A-Row.Denot = record { here = here; scheduling = s; room = g.S.Rows.room c.self.inside.rows; merged = c.reserve_for_all.new.self.merged; due = left s c.reserve_for_all.new.self.due.items; due_room = c.reserve_for_all.new.self.room } in
     let p = err_from_is_err_and c.from_residual.result c.from_residual.ensures.1 in
-    let same : new ≡ old = λ i. record { here = here; scheduling = s; room = g.S.Rows.room c.self.inside.rows; merged = c.in_err-reserve.ensures.merged i; due = ap (left s) c.in_err-reserve.ensures.due i; due_room = c.in_err-reserve.ensures.err i } in
+    let same : new ≡ old = λ i. record { here = here; scheduling = s; room = g.S.Rows.room c.self.inside.rows; merged = c.in_err-reserve_for_all.ensures.merged i; due = ap (left s) c.in_err-reserve_for_all.ensures.due i; due_room = c.in_err-reserve_for_all.ensures.err i } in
     subst (λ v. Did (list_any (λ e. has_local_key v.here e.1) es) c.from_residual.result (merge c.args.epoch es v) v new) c.self.view_is
     (subst (λ r. Did (list_any (λ e. has_local_key here e.1) es) r (merge c.args.epoch es old) old new) (sym p.1)
     (subst (λ b. Did (list_any (λ e. has_local_key here e.1) es) (Err p.0) (cond b (Does (record old { merged = suc n; due = old.due ++ left s (local_places here es); due_room = 0 }) tt) (Refuses fault.AdmittedOutOfOrder)) old new) (sym (sym c.is_next.ensures ∙ c.if-not-is_next.false))
-    (some_local here es (omega (arith, c.in_err-reserve.ensures.refused.1)), p.2 ∙ c.in_err-reserve.ensures.refused.0, same)))
+    (some_local here es (omega (arith, c.in_err-reserve_for_all.ensures.refused.1)), p.2 ∙ c.in_err-reserve_for_all.ensures.refused.0, same)))
 
 pub returns-clause-did : goal.returns-clause-did
 returns-clause-did g c =
@@ -52,8 +52,8 @@ returns-clause-did g c =
     let count : c.skip_done.new.self.merged ≡ suc n = omega (arith, c.skip_done.ensures.merged, c.merge.ensures.merged, eqb-true c.args.epoch n next.0) in
     let due = left_merged c.self.inside.opened c.self.inside.last c.self.inside.turns.kept n c.self.inside.progress.done c.self.inside.progress.due.items c.self.invariant.1 here es c.args.epoch
     (eqb-true c.args.epoch n next.0) c.ranges.epoch.fits next.1 c.skip_done.new.self.merged c.skip_done.new.self.done c.merge.new.self.due.items c.skip_done.new.self.due.items
-    (c.skip_done.ensures.merged ∙ c.merge.ensures.merged) (c.skip_done.ensures.done ∙ c.merge.ensures.done ∙ c.in_ok-reserve.ensures.done)
-    (c.merge.ensures.due ∙ ap (λ l. l ++ local_places here es) c.in_ok-reserve.ensures.due) c.skip_done.ensures.due store in
+    (c.skip_done.ensures.merged ∙ c.merge.ensures.merged) (c.skip_done.ensures.done ∙ c.merge.ensures.done ∙ c.in_ok-reserve_for_all.ensures.done)
+    (c.merge.ensures.due ∙ ap (λ l. l ++ local_places here es) c.in_ok-reserve_for_all.ensures.due) c.skip_done.ensures.due store in
     let grown : new ≡ record old { merged = suc n; due = old.due ++ left s (local_places here es); due_room = 0 } = λ i. record { here = here; scheduling = s; room = g.S.Rows.room c.self.inside.rows; merged = count i; due = due i; due_room = (c.skip_done.ensures.room ∙ c.merge.ensures.room) i } in
     subst (λ v. Did (list_any (λ e. has_local_key v.here e.1) es) (Ok tt) (merge c.args.epoch es v) v new) c.self.view_is
     (subst (λ b. Did (list_any (λ e. has_local_key here e.1) es) (Ok tt) (cond b (Does (record old { merged = suc n; due = old.due ++ left s (local_places here es); due_room = 0 }) tt) (Refuses fault.AdmittedOutOfOrder)) old new) (sym (sym c.is_next.ensures ∙ c.if-not-is_next.false))

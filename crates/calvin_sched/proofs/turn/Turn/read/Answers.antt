@@ -3,7 +3,7 @@ use Rattle.calvin_types.specs.Participants.{site, local_keys}
 use Rattle.calvin_app.specs.Rows.{view}
 use Rattle.calvin_sched.specs.Scheduling.{gathered}
 use Rattle.calvin_sched.proofs.Gathering.{own_rows}
-use Rattle.calvin_sched.proofs.turn.Turn.begin.Goals as goal
+use Rattle.calvin_sched.proofs.turn.Turn.read.Goals as goal
 
 pub invariant_of-self : goal.invariant_of-self
 invariant_of-self g c =

@@ -11,7 +11,7 @@ use Rattle.calvin_sched.specs.declared.phase.Phase.TheVariants.{Begun, Done}
 use Rattle.calvin_sched.proofs.Progresses.{progress_stepped, progress_ended, left_stepped, left_ended, left_again}
 use Rattle.calvin_sched.proofs.ReadyHere.{ready_of}
 use Rattle.calvin_sched.proofs.Steps.{after_is, keeps_active, keeps_passive, if_ok}
-use Rattle.calvin_sched.proofs.scheduler.Scheduler.begin_in_place.Goals as goal
+use Rattle.calvin_sched.proofs.scheduler.Scheduler.begin_found.Goals as goal
 
 pub invariant_of-self : goal.invariant_of-self
 invariant_of-self g c =

@@ -3,7 +3,7 @@ use Rattle.std.specs.FinMap as map
 use Rattle.std.specs.Map.{lookup}
 use Rattle.std.proofs.lemmas.Option.{same_Some}
 use Rattle.calvin_sched.proofs.PlaceMaps.{place_eq, got}
-use Rattle.calvin_sched.proofs.turns.Turns.get.Goals as goal
+use Rattle.calvin_sched.proofs.turns.Turns.get_near.Goals as goal
 
 pub returns : goal.returns
 returns g c =
