@@ -37,7 +37,7 @@ fn answer_lines<R: Printed>(
     replies: &Replies<R>,
     finished: Option<u64>,
 ) -> Result<Vec<Vec<u8>>, Fault>
-    ensures lines { IfOk result (λ ls. map (λ l. l.items) ls.items ≡ map (λ e. line R.printed e.0 e.1.0 e.1.1) replies.now.entries ++ finished_at finished ∷ []) }
+    ensures lines { IfOk result (λ ls. map (λ l. l.items) ls.items ≡ map (λ e. line R.printed e.0 e.1.0 e.1.1) replies.now.items ++ finished_at finished ∷ []) }
     ensures only { IsOkUnless result Fault.OutOfMemory }
 {
     let mut lines = Vec::new(alloc);
@@ -60,7 +60,7 @@ pub(crate) fn are_lines<R: Printed>(
     finished: Option<u64>,
     texts: &[String],
 ) -> Result<bool, Fault>
-    ensures same { IfOk result (λ are. are ≡ are_lines (map string_bytes texts.now) (map (λ e. line R.printed e.0 e.1.0 e.1.1) replies.now.entries ++ finished_at finished ∷ [])) }
+    ensures same { IfOk result (λ are. are ≡ are_lines (map string_bytes texts.now) (map (λ e. line R.printed e.0 e.1.0 e.1.1) replies.now.items ++ finished_at finished ∷ [])) }
     ensures only { IsOkUnless result Fault.OutOfMemory }
 {
     let expected = lines_of(alloc, texts)?;

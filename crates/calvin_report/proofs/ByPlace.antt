@@ -101,16 +101,10 @@ module _ {Args Row Reply : Type 0} where
   no_reply (content.Replies q id attempt answer) none = absurd (none q id attempt answer refl)
 
 module _ {Args Row Reply : Type 0} (packets : List (Packet Args Row Reply)) (i : ℕ) (p : Packet Args Row Reply) (less : i < length packets) (is : p ≡ get_or packets i p) where
-  abbrev told : List (Packet Args Row Reply) → ByPlace Reply
+  abbrev pub told : List (Packet Args Row Reply) → ByPlace Reply
   told ps = flat_map (λ (r : Packet Args Row Reply). reply_in r.content) ps
 
-  one_more : told (take (i + 1) packets) ≡ told (take i packets) ++ reply_in p.content
+  pub one_more : told (take (i + 1) packets) ≡ told (take i packets) ++ reply_in p.content
   one_more =
       let here : slice_get packets i ≡ Some p = slice_get-get_or packets i p less ∙ ap Some (sym is) in
       ap told (take_at packets i p here) ∙ flat_map-append (λ (r : Packet Args Row Reply). reply_in r.content) (take i packets) (p ∷ []) ∙ ap (λ es. told (take i packets) ++ es) (append-nil (reply_in p.content))
-
-  pub reply_more : (q : Place) (id : RequestId) (attempt : ℕ) (answer : Answer Reply) → p.content ≡ content.Replies q id attempt answer → entries (replied (take (i + 1) packets)) ≡ put_first q (id, answer) (entries (replied (take i packets)))
-  reply_more q id attempt answer says = ap (λ es. entries (from_entries {R = place_cmp} es)) (one_more ∙ ap (λ c. told (take i packets) ++ reply_in c) says) ∙ first_kept (told (take i packets)) q (id, answer)
-
-  pub silent_more : reply_in p.content ≡ [] → entries (replied (take (i + 1) packets)) ≡ entries (replied (take i packets))
-  silent_more none = ap (λ es. entries (from_entries {R = place_cmp} es)) (one_more ∙ ap (λ es. told (take i packets) ++ es) none ∙ append-nil (told (take i packets)))

@@ -1,4 +1,6 @@
 pub mod ByPlace
+mod FirstNotes
+pub mod ReplyLines
 pub mod NodeLines
 pub mod Least
 pub mod Told

@@ -2,3 +2,4 @@ pub mod Replies
 pub mod Reports
 pub mod FirstPut
 pub mod SoFar
+pub mod Notes

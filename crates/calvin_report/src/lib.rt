@@ -2,6 +2,7 @@
 #![tactic(auto)]
 
 mod nodes;
+mod notes;
 mod outcomes;
 mod replies;
 mod serial;

@@ -1,19 +1,17 @@
 //! The lines of replies.
 ghost use Rattle.std.specs.Prelude.{◌≡◌, ◌++◌, OnOk, IfOk, IsOkUnless};
 ghost use Rattle.std.specs.FinMap.{entries};
-ghost use Rattle.calvin_types.specs.Places.{place_cmp};
-ghost use Rattle.calvin_report.specs.FirstPut.{put_first};
 ghost use Rattle.calvin_report.specs.Replies.{replied, is_told, of_epochs, reply_lines};
 
+use crate::notes::{first_replies, notes_of};
 use calvin_app::Answer;
-use calvin_node_packets::{Content, Packet};
+use calvin_node_packets::Packet;
 use calvin_text::{Printed, push_line};
 use calvin_types::{Fault, Place, RequestId};
 use std::alloc::{AllocError, Global};
-use std::collections::BTreeMap;
 
-/// What was replied at each place: the name of the request, and its answer.
-pub type Replies<R> = BTreeMap<Place, (RequestId, Answer<R>)>;
+/// What was replied at each place, in the order of the places: the name of the request, and its answer.
+pub type Replies<R> = Vec<(Place, (RequestId, Answer<R>))>;
 
 /// The epochs whose replies are told.
 #[derive(Clone, Copy, Debug, PartialEq, Eq)]
@@ -36,38 +34,18 @@ impl Epochs {
     }
 }
 
-/// What was replied at each place in all these packets: where several replies were sent at a place, the first of them. Refused
-/// with `OutOfMemory` where a growth was refused.
+/// What was replied at each place in all these packets: where several replies were sent at a place, the first of them. They are
+/// noted by their places and sorted, so that none is copied but these. Refused with `OutOfMemory` where a growth was refused.
 pub fn replies_of<Args, Row, R: Copy>(
     alloc: Global,
     packets: &[Packet<Args, Row, R>],
 ) -> Result<Replies<R>, Fault>
-    ensures ok { IfOk result (λ replies. replies.entries ≡ entries (replied packets.now)) }
+    ensures ok { IfOk result (λ replies. replies.items ≡ entries (replied packets.now)) }
     ensures only { IsOkUnless result Fault.OutOfMemory }
 {
-    let mut replies = BTreeMap::new(alloc);
-    for packet in packets {
-        if let Content::Replies(place, id, _attempt, answer) = &packet.content {
-            note(&mut replies, *place, *id, *answer)?;
-        }
-    }
-    Ok(replies)
-}
-
-/// Notes what is replied at a place, unless something is noted there.
-fn note<R: Copy>(
-    replies: &mut Replies<R>,
-    place: Place,
-    id: RequestId,
-    answer: Answer<R>,
-) -> Result<(), Fault>
-    ensures ok { OnOk result (replies.new.entries ≡ put_first place (id, answer) replies.old.entries) }
-    ensures only { IsOkUnless result Fault.OutOfMemory }
-{
-    if !replies.contains_key(&place) {
-        replies.insert(place, (id, answer))?;
-    }
-    Ok(())
+    let mut notes = notes_of(alloc, packets)?;
+    notes.sort_by_key(|note| note.0)?;
+    first_replies(alloc, packets, notes.as_slice())
 }
 
 /// Adds a line for each place of the epochs at which something was replied, in the order of places.
@@ -76,7 +54,7 @@ pub fn push_replies<R: Printed + Copy>(
     replies: &Replies<R>,
     epochs: Epochs,
 ) -> Result<(), AllocError>
-    ensures { OnOk result (text.new.items ≡ text.old.items ++ reply_lines R.printed (of_epochs epochs replies.now.entries)) }
+    ensures { OnOk result (text.new.items ≡ text.old.items ++ reply_lines R.printed (of_epochs epochs replies.now.items)) }
 {
     for (place, (id, answer)) in replies.iter() {
         if epochs.has(place.epoch) {

@@ -34,5 +34,6 @@ pub fn agrees<B>()
 /// proposes; 0 and 1 promise; 0 counts both promises; 0 and 1 vote; and the learner of 0 counts both votes.
 pub fn can_choose<B>()
     ensures { (slot : Slot) (batch : B) → (w : GroupState B)
-        × Leads (opening 3) (Propose 0 slot batch ∷ Deliver 0 ∷ Deliver 1 ∷ Deliver 3 ∷ Deliver 4 ∷ Deliver 5 ∷ Deliver 6 ∷ Deliver 8 ∷ Deliver 11 ∷ []) (Done ∷ Done ∷ Done ∷ Done ∷ Done ∷ Done ∷ Done ∷ Done ∷ Gave slot batch ∷ []) w × Chosen w slot batch }
+        × Leads (opening 3) (Propose 0 slot batch ∷ Deliver 0 ∷ Deliver 1 ∷ Deliver 3 ∷ Deliver 4 ∷ Deliver 5 ∷ Deliver 6 ∷ Deliver 8 ∷ Deliver 11 ∷ [])
+        (Done ∷ Done ∷ Done ∷ Done ∷ Done ∷ Done ∷ Done ∷ Done ∷ Gave slot batch ∷ []) w × Chosen w slot batch }
 {}

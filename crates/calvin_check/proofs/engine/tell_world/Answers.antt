@@ -38,7 +38,7 @@ returns-clause-expected g c =
     let show = g.A.Reply.Printed.printed in
     let world = c.args.world.now in
     let replies = c.in_ok-replies.ensures.ok ∙ ap (λ packets. entries (replied packets)) c.packets.ensures in
-    let lines : map (λ e. line show e.0 e.1.0 e.1.1) c.in_ok-replies.replies.entries ++ finished_at c.finished-last.result ∷ [] ≡ answer_lines show world = λ i. map (λ e. line show e.0 e.1.0 e.1.1) (replies i) ++ finished_at (c.finished-last.ensures i) ∷ [] in
+    let lines : map (λ e. line show e.0 e.1.0 e.1.1) c.in_ok-replies.replies.items ++ finished_at c.finished-last.result ∷ [] ≡ answer_lines show world = λ i. map (λ e. line show e.0 e.1.0 e.1.1) (replies i) ++ finished_at (c.finished-last.ensures i) ∷ [] in
     subst (λ o. IfOk c.are_lines.result (λ are. are ≡ are_expected (option_map (λ v. map string_bytes v.items) o) (answer_lines show world))) (sym c.in-Some.is)
     (subst (λ texts. IfOk c.are_lines.result (λ are. are ≡ are_lines (map string_bytes texts) (answer_lines show world))) c.deref.ensures.value
     (subst (λ told. IfOk c.are_lines.result (λ are. are ≡ are_lines (map string_bytes c.deref.result.now) told)) lines c.are_lines.ensures.same))

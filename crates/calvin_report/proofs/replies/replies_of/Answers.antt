@@ -1,29 +1,30 @@
--- Packet by packet.
-use Rattle.std.proofs.Common.{List, sym, ap, ◌∙◌}
-use Rattle.std.specs.BTreeMap.{BTreeMap}
-use Rattle.std.specs.FinMap.{entries}
-use Rattle.std.proofs.lemmas.List.{take_all}
+use Rattle.std.proofs.Common.{rules, ◌≡◌, ℕ, List, sym, ap, subst, ◌∙◌}
+use Rattle.std.specs.List.{All}
+use Rattle.std.specs.Result.{IfOk}
+use Rattle.std.specs.FinMap.{entries, from_entries}
+use Rattle.std.proofs.lemmas.List.Sorted.{All-permutation, answers_always}
 use Rattle.calvin_types.specs.declared.place.Place.{Place}
-use Rattle.calvin_types.specs.declared.place.RequestId.{RequestId}
-use Rattle.calvin_app.specs.declared.answer.Answer.{Answer}
-use Rattle.calvin_node_packets.specs.declared.packet.Packet.{Packet}
-use Rattle.calvin_report.specs.FirstPut.{put_first}
-use Rattle.calvin_report.specs.Replies.{replied}
-use Rattle.calvin_report.proofs.ByPlace.{entries_empty, reply_more, silent_more, no_reply}
+use Rattle.calvin_types.specs.Places.{place_cmp}
+use Rattle.calvin_report.specs.Notes.{noted, IsNote, AreInOrder}
+use Rattle.calvin_report.specs.Replies.{ByPlace}
+use Rattle.calvin_report.proofs.FirstNotes.{same_first}
 use Rattle.calvin_report.proofs.replies.replies_of.Goals as goal
-use Rattle.calvin_report.proofs.replies.replies_of.Goals.{in-Replies+in_ok-note, in_default}
 
-pub loop-packet-init : goal.loop-packet-init
-loop-packet-init g c = c.new-replies.ensures.empty ∙ sym entries_empty
-
-pub loop-packet-preserved : goal.loop-packet-preserved
-loop-packet-preserved g c = elim c.match-packet.branch [
-  | in-Replies+in_ok-note w ↦ ap (λ (m : BTreeMap Place (RequestId × Answer g.row.R.Denot)). m.entries) w.replies-is ∙ w.in_ok-note.ensures.ok
-      ∙ ap (put_first w.in-Replies.place (w.in-Replies.id, w.in-Replies.answer)) c.loop-packet.invariant
-      ∙ sym (reply_more c.args.packets.now c.loop-packet.packet-index c.packet-item.result c.loop-packet-test.true c.packet-item.is w.in-Replies.place w.in-Replies.id w.in-Replies._attempt w.in-Replies.answer w.in-Replies.is)
-  | in_default w ↦ ap (λ (m : BTreeMap Place (RequestId × Answer g.row.R.Denot)). m.entries) w.replies-is ∙ c.loop-packet.invariant
-      ∙ sym (silent_more c.args.packets.now c.loop-packet.packet-index c.packet-item.result c.loop-packet-test.true c.packet-item.is (no_reply c.packet-item.result.content w.in_default.not-Replies))
-]
+pub first_replies-requires : goal.first_replies-requires
+first_replies-requires g c =
+    let notes = c.in_ok-notes.notes.items in
+    let after = c.sort_by_key.new.self.items in
+    let each = All-permutation (IsNote c.args.packets.now) notes after c.in_ok-sort_by_key.ensures.permutation c.in_ok-notes.ensures.each in
+    let order = c.in_ok-sort_by_key.ensures.sorted (λ (n : Place × ℕ). n.0) (answers_always _ _ _ (λ f a r g h. search rules)) in
+    (search rules, (subst (All (IsNote c.args.packets.now)) (sym c.as_slice.ensures.value) each, subst AreInOrder (sym c.as_slice.ensures.value) order))
 
 pub returns-clause-ok : goal.returns-clause-ok
-returns-clause-ok g c = c.loop-packet.invariant ∙ ap (λ (ps : List (Packet g.row.Args.Denot g.row.Row.Denot g.row.R.Denot)). entries (replied ps)) (take_all c.loop-packet.packet-index c.args.packets.now c.loop-packet-test.false)
+returns-clause-ok g c =
+    let packets = c.args.packets.now in
+    let notes = c.in_ok-notes.notes.items in
+    let after = c.sort_by_key.new.self.items in
+    let each = All-permutation (IsNote packets) notes after c.in_ok-sort_by_key.ensures.permutation c.in_ok-notes.ensures.each in
+    let stable = c.in_ok-sort_by_key.ensures.stable (λ (n : Place × ℕ). n.0) (answers_always _ _ _ (λ f a r g h. search rules)) in
+    let told = ap (λ (ns : List (Place × ℕ)). entries (from_entries {R = place_cmp} (noted packets ns))) c.as_slice.ensures.value ∙ same_first packets notes after c.in_ok-notes.ensures.each each stable
+    ∙ ap (λ (es : ByPlace g.row.R.Denot). entries (from_entries {R = place_cmp} es)) c.in_ok-notes.ensures.noted in
+    subst (λ (es : ByPlace g.row.R.Denot). IfOk c.first_replies.result (λ replies. replies.items ≡ es)) told c.first_replies.ensures.ok

@@ -1,0 +1,85 @@
+//! The packets that reply, noted by their places.
+ghost use Rattle.std.specs.Prelude.{◌≡◌, IfOk, IsOkUnless};
+ghost use Rattle.std.specs.List.{All, flat_map};
+ghost use Rattle.std.specs.Option.{option_to_list};
+ghost use Rattle.std.specs.FinMap.{entries, from_entries};
+ghost use Rattle.calvin_types.specs.Places.{place_cmp};
+ghost use Rattle.calvin_sched.specs.Scheduling.{is_past};
+ghost use Rattle.calvin_report.specs.Notes.{reply_at, noted, IsNote, AreInOrder};
+ghost use Rattle.calvin_report.specs.Replies.{reply_in};
+
+use crate::replies::Replies;
+use calvin_app::Answer;
+use calvin_node_packets::{Content, Packet};
+use calvin_types::{Fault, Place, RequestId};
+use std::alloc::Global;
+
+/// The packets that reply, in the order in which they were sent: the place at which each does, and its number. Refused with
+/// `OutOfMemory` where a growth was refused.
+pub(crate) fn notes_of<Args, Row, R: Copy>(
+    alloc: Global,
+    packets: &[Packet<Args, Row, R>],
+) -> Result<Vec<(Place, usize)>, Fault>
+    ensures noted { IfOk result (λ notes. noted packets.now notes.items ≡ flat_map (λ p. reply_in p.content) packets.now) }
+    ensures each { IfOk result (λ notes. All (IsNote packets.now) notes.items) }
+    ensures only { IsOkUnless result Fault.OutOfMemory }
+{
+    let mut notes = Vec::new(alloc);
+    for number in 0..packets.len() {
+        if let Content::Replies(place, _id, _attempt, _answer) = &packets[number].content {
+            notes.push((*place, number))?;
+        }
+    }
+    Ok(notes)
+}
+
+/// What the packet of a number replies, if it does.
+fn reply_of<Args, Row, R: Copy>(
+    packets: &[Packet<Args, Row, R>],
+    number: usize,
+) -> Option<(Place, (RequestId, Answer<R>))>
+    ensures { option_to_list result ≡ reply_at packets.now number }
+{
+    match &packets.get(number)?.content {
+        Content::Replies(place, id, _attempt, answer) => Some((*place, (*id, *answer))),
+        _ => None,
+    }
+}
+
+/// Whether a place is after the last one, if there is one.
+fn is_past(last: Option<Place>, place: Place) -> bool
+    ensures { result ≡ is_past last place }
+{
+    match last {
+        Some(last) => last < place,
+        None => true,
+    }
+}
+
+/// What is replied at each place by the first of the packets that are noted there, in the order of the places. Refused with
+/// `OutOfMemory` where a growth was refused.
+pub(crate) fn first_replies<Args, Row, R: Copy>(
+    alloc: Global,
+    packets: &[Packet<Args, Row, R>],
+    notes: &[(Place, usize)],
+) -> Result<Replies<R>, Fault>
+    requires each { All (IsNote packets.now) notes.now }
+    requires order { AreInOrder notes.now }
+    ensures ok { IfOk result (λ replies. replies.items ≡ entries (from_entries {R = place_cmp} (noted packets.now notes.now))) }
+    ensures only { IsOkUnless result Fault.OutOfMemory }
+{
+    let mut replies = Vec::new(alloc);
+    let mut last = None;
+    for i in 0..notes.len() {
+        let (place, number) = notes[i];
+        if !is_past(last, place) {
+            continue;
+        }
+        let Some(reply) = reply_of(packets, number) else {
+            continue;
+        };
+        replies.push(reply)?;
+        last = Some(place);
+    }
+    Ok(replies)
+}
