@@ -237,8 +237,8 @@ impl<A: App> Turn<A> {
         others
     }
 
-    /// Whether it reads a key that is stored here, and another partition runs it too: where it writes a key elsewhere, or takes
-    /// part at a partition of lesser number.
+    /// Whether it reads a key that is stored here, and another partition runs it too: it writes a key elsewhere, or a partition
+    /// of lesser number takes part.
     pub(crate) fn serves_others(&self, config: &Config, partition: u8) -> bool
         ensures { result ≡ serves_others (site config.now.partitions partition) (Some self.now.turn) }
     {
