@@ -77,6 +77,15 @@ impl<Args: Copy> Batch<Args> {
         self.txns.as_slice().get(i).copied()
     }
 
+    /// The requests, in order, in the same memory, which gets one more owner. It takes none, and is refused with
+    /// `OutOfMemory` only where there are 2^63 - 1 owners.
+    pub fn share(&self) -> Result<Shared<Txn<Args>>, Fault>
+        ensures ok { IfOk result (λ txns. txns ≡ self.now) }
+        ensures only { IsOkUnless result Fault.OutOfMemory }
+    {
+        Ok(self.txns.share()?)
+    }
+
     /// Another owner of the same memory. It takes none of its own, and is refused with `OutOfMemory` only where there
     /// are 2^63 - 1 owners.
     pub fn copy(&self) -> Result<Batch<Args>, Fault>
