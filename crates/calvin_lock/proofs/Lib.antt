@@ -6,10 +6,12 @@ pub mod MarkWords
 pub mod PlaceTests
 pub mod QueueLists
 pub mod QueueMaps
+pub mod QueuePlaces
 pub mod QueuedSteps
 pub mod ReadyByQueues
 pub mod ReadyLaws
 pub mod ReadyPlaces
 pub mod Requests
 pub mod RisingPlaces
+pub mod TakenPlaces
 pub mod Waits

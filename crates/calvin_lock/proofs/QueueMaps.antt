@@ -68,8 +68,11 @@ module _ (es now : List (Key × Queue)) (key : Key) (w : Option Queue) (updated 
   pub none_other : (k : Key) → equal_keys key k ≡ false → queue_at es k ≡ None → queue_at now k ≡ None
   none_other k apart none = updated k ∙ ap (λ b. cond b w (queue_at es k)) apart ∙ none
 
+  pub queue_now : queue_at now key ≡ w
+  queue_now = updated key ∙ ap (λ b. cond b w (queue_at es key)) (equal_keys_self key)
+
   pub none_here : w ≡ None → queue_at now key ≡ None
-  none_here gone = updated key ∙ ap (λ b. cond b w (queue_at es key)) (equal_keys_self key) ∙ gone
+  none_here gone = queue_now ∙ gone
 
   -- so it is for each key where one that had a queue is concerned
   pub none_is_new : (v : Queue) → queue_at es key ≡ Some v → NoneIsNew es now
@@ -179,10 +182,10 @@ module _ (keys except : List Key) (i : ℕ) (key : Key) (at : slice_get keys i �
   )
 
   -- and its queue is let go where nobody asks for it any more
-  pub next_nobody : (queues between now : List (Key × Queue)) → NoneIsEmpty (λ k. cond (asked (take i keys) except k) (after k) (before k)) queues → NoneIsNew queues between → NoneIsNew between now
+  pub next_nobody : (queues now : List (Key × Queue)) → NoneIsEmpty (λ k. cond (asked (take i keys) except k) (after k) (before k)) queues → NoneIsNew queues now
       → (cond (asked (take (i + 1) keys) except key) (after key) (before key) ≡ [] → queue_at now key ≡ None) → NoneIsEmpty (λ k. cond (asked (take (i + 1) keys) except k) (after k) (before k)) now
-  next_nobody queues between now old first second here k none = go (equal_keys key k) refl
+  next_nobody queues now old first here k none = go (equal_keys key k) refl
     where
       go : (b : Bool) → equal_keys key k ≡ b → queue_at now k ≡ None
       go true same = subst (λ x. queue_at now x ≡ None) (equal_keys_exact key k same) (here (subst (λ x. cond (asked (take (i + 1) keys) except x) (after x) (before x) ≡ []) (sym (equal_keys_exact key k same)) none))
-      go false apart = second k (first k (old k (ap (λ b. cond b (after k) (before k)) (sym (asked_other keys except i key at k apart)) ∙ none)))
+      go false apart = first k (old k (ap (λ b. cond b (after k) (before k)) (sym (asked_other keys except i key at k apart)) ∙ none))

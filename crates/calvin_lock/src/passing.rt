@@ -1,10 +1,10 @@
 //! Keys that are passed on by a place that is released.
-ghost use Rattle.std.specs.Prelude.{◌≡◌, ◌+◌, List, true, cond, ℕ};
+ghost use Rattle.std.specs.Prelude.{◌≡◌, ◌+◌, List, [], true, cond, ℕ, None};
 ghost use Rattle.std.specs.Option.{option_map};
 ghost use Rattle.calvin_types.specs.declared.key.Key.{Key};
 ghost use Rattle.calvin_types.specs.declared.place.Place.{Place};
 ghost use Rattle.calvin_lock.specs.declared.queue.Ask.{Ask};
-ghost use Rattle.calvin_lock.specs.Queues.{Fits, IsQueueOf, IsSettled, waits_in, waits_of, asked, AreQueuesOrEmpty, AreQueues, NoneIsEmpty, NoneIsNew, AllFit, Leaves, LeavesAt};
+ghost use Rattle.calvin_lock.specs.Queues.{Fits, IsQueueOf, IsSettled, waits_in, waits_of, asked, queue_at, AreQueuesOrEmpty, AreQueues, NoneIsEmpty, NoneIsNew, AllFit, Leaves, LeavesAt};
 ghost use Rattle.calvin_lock.specs.Unreleased.{IsUnreleased, WaitsFor, pending_at};
 
 use crate::queue::Queue;
@@ -31,7 +31,8 @@ fn settle(queue: &mut Queue, unreleased: &mut Unreleased)
 }
 
 impl Queues {
-    /// One that holds a key leaves its queue, and those who wait first hold it, as far as they may.
+    /// One that holds a key leaves its queue, and those who wait first hold it, as far as they may. A queue that no place is
+    /// in any more is let go.
     fn pass_on(&mut self, unreleased: &mut Unreleased, key: Key)
         requires kept { IsUnreleased unreleased.old }
         requires fits { AllFit self.old.queues.entries }
@@ -40,12 +41,18 @@ impl Queues {
         ensures sets { (q : Place) → option_map (λ p. p.sets) (pending_at unreleased.new.places.entries q) ≡ option_map (λ p. p.sets) (pending_at unreleased.old.places.entries q) }
         ensures order { unreleased.new.order.items ≡ unreleased.old.order.items }
         ensures queues { (before after : Key → List Ask) → AreQueuesOrEmpty before self.old.queues.entries → LeavesAt key before after → AreQueuesOrEmpty after self.new.queues.entries }
+        ensures gone { (before after : Key → List Ask) → AreQueuesOrEmpty before self.old.queues.entries → LeavesAt key before after → after key ≡ [] → queue_at self.new.queues.entries key ≡ None }
         ensures none_new { NoneIsNew self.old.queues.entries self.new.queues.entries }
         ensures waits { WaitsFor (λ q. waits_of q self.old.queues.entries) unreleased.old.places.entries → WaitsFor (λ q. waits_of q self.new.queues.entries) unreleased.new.places.entries }
     {
-        if let Some(queue) = self.queues.get_mut(&key) {
-            queue.leave();
-            settle(queue, unreleased);
+        let Some(at) = self.queues.get_index_of(&key) else {
+            return;
+        };
+        let (_, queue) = self.queues.pair_mut(at);
+        queue.leave();
+        settle(queue, unreleased);
+        if queue.is_free() {
+            let _queue = self.queues.swap_remove_index(at);
         }
     }
 
@@ -75,7 +82,6 @@ impl Queues {
                 continue;
             }
             self.pass_on(unreleased, key);
-            self.drop_empty(key);
         }
     }
 }

@@ -12,6 +12,7 @@ ghost use Rattle.calvin_lock.specs.Queues.{equal_places, is_of, ask_if, asked, w
 use crate::queue::{Ask, Kind, Queue};
 use calvin_types::{Fault, Key, KeySet, Place};
 use indexmap::IndexMap;
+use indexmap::map::Entry;
 use std::alloc::Global;
 
 /// The queue of each key that is asked for. A queue is found in expected constant time; one that no place is in any more
@@ -42,13 +43,15 @@ impl Queues {
         ensures ok { OnOk result (HasRoomAt self.new.queues.entries key kind) }
         ensures only { IsOkUnless result Fault.OutOfMemory }
     {
-        if let Some(queue) = self.queues.get_mut(&key) {
-            return queue.reserve(kind);
+        match self.queues.entry(key)? {
+            Entry::Occupied(entry) => entry.into_mut().reserve(kind),
+            Entry::Vacant(entry) => {
+                let mut queue = Queue::new(self.alloc);
+                queue.reserve(kind)?;
+                let _queue = entry.insert(queue);
+                Ok(())
+            }
         }
-        let mut queue = Queue::new(self.alloc);
-        queue.reserve(kind)?;
-        self.queues.insert(key, queue)?;
-        Ok(())
     }
 
     /// Makes room for one more place, which asks so for each of some keys but for others.
@@ -76,7 +79,7 @@ impl Queues {
     }
 
     /// Lets the queue of a key go where it is empty.
-    pub(crate) fn drop_empty(&mut self, key: Key)
+    fn drop_empty(&mut self, key: Key)
         ensures fits { AllFit self.old.queues.entries → AllFit self.new.queues.entries }
         ensures kept { (asks : Key → List Ask) → AreQueuesOrEmpty asks self.old.queues.entries → AreQueuesOrEmpty asks self.new.queues.entries }
         ensures waits { (asks : Key → List Ask) → AreQueuesOrEmpty asks self.old.queues.entries → (q : Place) → waits_of q self.new.queues.entries ≡ waits_of q self.old.queues.entries }

@@ -188,15 +188,16 @@ impl Unreleased {
             × ((q : Place) → pending_at self.new.places.entries q ≡ cond (equal_places place q) None (pending_at self.old.places.entries q))) }
         ensures order { self.new.order.items ≡ self.old.order.items }
     {
-        let pending = self.places.get(&place)?;
+        let (at, _, pending) = self.places.get_full(&place)?;
         if pending.waits > 0 {
             return None;
         }
         let number = number_of(self.order.as_slice(), place, pending.near)?;
+        let sets = pending.sets;
         self.marks.unmark(number);
         self.last = number;
-        let taken = self.places.swap_remove(&place)?;
-        Some(taken.sets)
+        let _taken = self.places.swap_remove_index(at);
+        Some(sets)
     }
 
     /// Whether a place is unreleased and waits for no key.

@@ -4,7 +4,6 @@ use Rattle.calvin_lock.specs.declared.queue.Ask.{Ask}
 use Rattle.calvin_lock.specs.Queues.{asked}
 use Rattle.calvin_lock.proofs.AskedKeys.{asked_passed, asked_all, asked_whole}
 use Rattle.calvin_lock.proofs.QueueMaps.{same_asks, next_leaves, next_nobody}
-use Rattle.calvin_lock.proofs.Waits.{waits_alike}
 use Rattle.calvin_lock.proofs.queues.Queues.leave.Goals as goal
 
 pub loop-i-preserved-then-has : goal.loop-i-preserved-then-has
@@ -29,20 +28,18 @@ loop-i-preserved c =
     let free = sym c.has.ensures ∙ c.if-has.false in
     let there = asked_whole keys except i key c.at-key.ensures free in
     let mid : (Key → List Ask) → (Key → List Ask) → Key → List Ask = λ before after k. cond (asked (take i keys) except k) (after k) (before k) in
+    let leaves_next = next_leaves keys except i key c.at-key.ensures c.len-i-end.ensures.rising free in
     let next : (Key → List Ask) → (Key → List Ask) → Key → List Ask = λ before after k. cond (asked (take (i + 1) keys) except k) (after k) (before k) in
     record {
       kept = c.pass_on.ensures.kept;
-      fits = c.drop_empty.ensures.fits c.pass_on.ensures.fits;
+      fits = c.pass_on.ensures.fits;
       sets = λ q. c.pass_on.ensures.sets q ∙ c.loop-i.invariant.sets q;
       order = c.pass_on.ensures.order ∙ c.loop-i.invariant.order;
-      queues = λ before after queues leaves. c.drop_empty.ensures.kept (next before after)
-          (c.pass_on.ensures.queues (mid before after) (next before after) (c.loop-i.invariant.queues before after queues leaves) (next_leaves keys except i key c.at-key.ensures c.len-i-end.ensures.rising free before after (leaves key there)));
-      nobody = λ before after queues leaves. next_nobody keys except i key c.at-key.ensures c.len-i-end.ensures.rising free before after c.loop-i.self.queues.entries c.pass_on.new.self.queues.entries c.drop_empty.new.self.queues.entries
-          (c.loop-i.invariant.nobody before after queues leaves) c.pass_on.ensures.none_new c.drop_empty.ensures.none_new
-          (c.drop_empty.ensures.gone (next before after) (c.pass_on.ensures.queues (mid before after) (next before after) (c.loop-i.invariant.queues before after queues.served leaves) (next_leaves keys except i key c.at-key.ensures c.len-i-end.ensures.rising free before after (leaves key there))));
-      waits = λ before after queues leaves waits. waits_alike _ _ c.pass_on.new.unreleased.places.entries
-          (λ q. sym (c.drop_empty.ensures.waits (next before after) (c.pass_on.ensures.queues (mid before after) (next before after) (c.loop-i.invariant.queues before after queues leaves) (next_leaves keys except i key c.at-key.ensures c.len-i-end.ensures.rising free before after (leaves key there))) q))
-          (c.pass_on.ensures.waits (c.loop-i.invariant.waits before after queues leaves waits));
+      queues = λ before after queues leaves. c.pass_on.ensures.queues (mid before after) (next before after) (c.loop-i.invariant.queues before after queues leaves) (leaves_next before after (leaves key there));
+      nobody = λ before after queues leaves. next_nobody keys except i key c.at-key.ensures c.len-i-end.ensures.rising free before after c.loop-i.self.queues.entries c.pass_on.new.self.queues.entries
+          (c.loop-i.invariant.nobody before after queues leaves) c.pass_on.ensures.none_new
+          (c.pass_on.ensures.gone (mid before after) (next before after) (c.loop-i.invariant.queues before after queues.served leaves) (leaves_next before after (leaves key there)));
+      waits = λ before after queues leaves waits. c.pass_on.ensures.waits (c.loop-i.invariant.waits before after queues leaves waits);
     }
 
 pub returns-clause-queues : goal.returns-clause-queues

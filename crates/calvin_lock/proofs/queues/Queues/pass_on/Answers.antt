@@ -1,68 +1,184 @@
-use Rattle.std.proofs.Common.{ℕ, ◌+◌, ◌-◌, deque_len, is_some, Some, None, subst, sym, ap, arith}
-use Rattle.std.proofs.lemmas.Map.Entries.{sum_by-set_value}
-use Rattle.calvin_types.specs.declared.place.Place.{Place}
+use Rattle.std.proofs.Common.{◌≡◌, true, false, deque_len, Some, None, refl, sym, ap, ◌∙◌, arith}
+use Rattle.std.proofs.lemmas.Bool.{false≢true}
 use Rattle.calvin_types.specs.SameKeys.{equal_keys}
+use Rattle.calvin_lock.specs.declared.queue.Kind.TheVariants as kind
 use Rattle.calvin_lock.specs.declared.queue.Queue.{Queue}
-use Rattle.calvin_lock.specs.Queues.{IsQueueOf, waits_in, waits_of, holder_count}
-use Rattle.calvin_lock.specs.Unreleased.{WaitsFor}
-use Rattle.calvin_lock.proofs.Entries.{sum_least}
+use Rattle.indexmap.specs.IndexMap.{set_value_at}
+use Rattle.indexmap.proofs.MapLemmas.{Missing-position}
+use Rattle.calvin_lock.specs.Queues.{admits, IsQueueAt, waits_in, waits_of, holder_count}
 use Rattle.calvin_lock.proofs.QueueLists.{count_without}
-use Rattle.calvin_lock.proofs.QueueMaps.{changed, queue_found, fits_set, nobody_leaves, left_queue, none_is_new}
+use Rattle.calvin_lock.proofs.QueueMaps.{changed, queue_found, fits_set, fits_gone, queue_now, free_empty, empty_free, free_none, nobody_leaves, none_here, none_is_new}
+use Rattle.calvin_lock.proofs.QueuePlaces.{found_there, passed, passed_waits, set_there, set_distinct, gone_there, sum_gone_there}
 use Rattle.calvin_lock.proofs.Waits.{waits_alike}
 use Rattle.calvin_lock.proofs.queues.Queues.pass_on.Goals as goal
 
-pub settle-requires-clause-fits : goal.settle-requires-clause-fits
-settle-requires-clause-fits c =
-    let count = count_without c.in-Some.queue.now.holders in
-    let holders = ap holder_count c.leave.ensures.holders in
-    let waiting = ap deque_len c.leave.ensures.waiting in
-    let fits = c.requires.fits c.args.key c.in-Some.queue.now (sym c.in-Some.ensures.value) in
-    omega (arith, count, holders, waiting, fits)
-
-pub returns-in-Some-clause-fits : goal.returns-in-Some-clause-fits
-returns-in-Some-clause-fits c =
-    let w = c.settle.new.queue in
-    let writes = c.get_mut.follows.holds w in
-    fits_set c.args.self.now.queues.entries (c.get_mut.follows.lender w).entries c.args.key w (writes.3 (ap is_some (sym c.in-Some.ensures.value))).0 c.settle.ensures.fits c.requires.fits
-
-pub returns-in-Some-clause-queues : goal.returns-in-Some-clause-queues
-returns-in-Some-clause-queues c = λ before after queues leaves.
-    let es = c.args.self.now.queues.entries in
-    let v = c.in-Some.queue.now in
-    let w = c.settle.new.queue in
-    let writes = c.get_mut.follows.holds w in
-    let found = sym c.in-Some.ensures.value in
-    let old = left_queue (before c.args.key) (after c.args.key) v leaves.0 (queue_found before es c.args.key (Some v) queues found) in
-    let gone = subst (λ l. IsQueueOf (after c.args.key) c.leave.new.self.holders l) (sym (ap (λ d. d.items) c.leave.ensures.waiting)) (subst (λ h. IsQueueOf (after c.args.key) h v.waiting.items) (sym c.leave.ensures.holders) old) in
-    changed before after es (c.get_mut.follows.lender w).entries c.args.key (Some w) queues writes.4 (writes.3 (ap is_some found)).0
-    (c.settle.ensures.queue (after c.args.key) gone, c.settle.ensures.settled, c.settle.ensures.fits) leaves.1
-
-pub returns-in-Some-clause-waits : goal.returns-in-Some-clause-waits
-returns-in-Some-clause-waits c = λ waits.
-    let es = c.args.self.now.queues.entries in
-    let v = c.in-Some.queue.now in
-    let w = c.settle.new.queue in
-    let writes = c.get_mut.follows.holds w in
-    let found = sym c.in-Some.ensures.value in
-    let more : Place → ℕ = λ q. waits_of q es - waits_in q v.waiting.items in
-    let before : WaitsFor (λ q. more q + waits_in q c.leave.new.self.waiting.items) c.args.unreleased.now.places.entries = waits_alike (λ q. waits_of q es) (λ q. more q + waits_in q c.leave.new.self.waiting.items) c.args.unreleased.now.places.entries (λ q.
-    let least = sum_least (λ (x : Queue). waits_in q x.waiting.items) (equal_keys c.args.key) v es found in
-    let same = ap (λ d. waits_in q d.items) c.leave.ensures.waiting in
-    omega (arith, least, same)) waits in
-    waits_alike (λ q. more q + waits_in q w.waiting.items) (λ q. waits_of q (c.get_mut.follows.lender w).entries) c.settle.new.unreleased.places.entries (λ q.
-    let least = sum_least (λ (x : Queue). waits_in q x.waiting.items) (equal_keys c.args.key) v es found in
-    let sum = sum_by-set_value (λ (x : Queue). waits_in q x.waiting.items) (equal_keys c.args.key) es v w found in
-    let now = ap (waits_of q) writes.0 in
-    omega (arith, least, sum, now))
-    (c.settle.ensures.waits more before)
-
 pub returns-in_default-clause-queues : goal.returns-in_default-clause-queues
 returns-in_default-clause-queues c = λ before after queues leaves.
-    absurd (nobody_leaves (before c.args.key) (after c.args.key) leaves.0 (queue_found before c.args.self.now.queues.entries c.args.key None queues (sym c.in_default.ensures.value)))
+    let es = c.args.self.now.queues.entries in
+    absurd (nobody_leaves (before c.args.key) (after c.args.key) leaves.0 (queue_found before es c.args.key None queues (Missing-position (equal_keys c.args.key) es (sym c.in_default.ensures.index)).value))
 
-pub returns-in-Some-clause-none_new : goal.returns-in-Some-clause-none_new
-returns-in-Some-clause-none_new c =
+pub settle-requires-clause-fits : goal.settle-requires-clause-fits
+settle-requires-clause-fits c =
+    let m = c.args.self.now.queues in
+    let at = c.in-Some.at in
+    let key = c.args.key in
+    let k = c.pair_mut-queue.result.0.now in
+    let v = c.pair_mut-queue.result.1.now in
+    let index = sym c.in-Some.ensures.index in
+    let there = c.pair_mut-queue.ensures.value in
+    let count = count_without v.holders in
+    let holders = ap holder_count c.leave.ensures.holders in
+    let waiting = ap deque_len c.leave.ensures.waiting in
+    let fits = c.requires.fits key v (found_there m at key k v index there) in
+    omega (arith, count, holders, waiting, fits)
+
+pub returns-else-is_free-clause-fits : goal.returns-else-is_free-clause-fits
+returns-else-is_free-clause-fits c =
+    let m = c.args.self.now.queues in
+    let at = c.in-Some.at in
+    let key = c.args.key in
+    let k = c.pair_mut-queue.result.0.now in
+    let v = c.pair_mut-queue.result.1.now in
+    let index = sym c.in-Some.ensures.index in
+    let there = c.pair_mut-queue.ensures.value in
     let w = c.settle.new.queue in
-    let writes = c.get_mut.follows.holds w in
-    let found = sym c.in-Some.ensures.value in
-    none_is_new c.args.self.now.queues.entries (c.get_mut.follows.lender w).entries c.args.key (Some w) (writes.3 (ap is_some found)).0 c.in-Some.queue.now found
+    let mid = set_value_at m.entries at w in
+    let updated = set_there m at key k v index there w c.pair_mut-queue.ensures.unique in
+    fits_set m.entries mid key w updated c.settle.ensures.fits c.requires.fits
+
+pub returns-else-is_free-clause-queues : goal.returns-else-is_free-clause-queues
+returns-else-is_free-clause-queues c = λ before after queues leaves.
+    let m = c.args.self.now.queues in
+    let at = c.in-Some.at in
+    let key = c.args.key in
+    let k = c.pair_mut-queue.result.0.now in
+    let v = c.pair_mut-queue.result.1.now in
+    let index = sym c.in-Some.ensures.index in
+    let there = c.pair_mut-queue.ensures.value in
+    let w = c.settle.new.queue in
+    let mid = set_value_at m.entries at w in
+    let updated = set_there m at key k v index there w c.pair_mut-queue.ensures.unique in
+    changed before after m.entries mid key (Some w) queues (set_distinct m at key k v index there w c.pair_mut-queue.ensures.unique) updated
+    (c.settle.ensures.queue (after key) (passed (before key) (after key) v c.leave.new.self c.leave.ensures.holders c.leave.ensures.waiting leaves.0 (queue_found before m.entries key (Some v) queues (found_there m at key k v index there))), c.settle.ensures.settled, c.settle.ensures.fits) leaves.1
+
+pub returns-else-is_free-clause-gone : goal.returns-else-is_free-clause-gone
+returns-else-is_free-clause-gone c = λ before after queues leaves none.
+    let m = c.args.self.now.queues in
+    let at = c.in-Some.at in
+    let key = c.args.key in
+    let k = c.pair_mut-queue.result.0.now in
+    let v = c.pair_mut-queue.result.1.now in
+    let index = sym c.in-Some.ensures.index in
+    let there = c.pair_mut-queue.ensures.value in
+    let w = c.settle.new.queue in
+    let mid = set_value_at m.entries at w in
+    let updated = set_there m at key k v index there w c.pair_mut-queue.ensures.unique in
+    let held : admits w.holders kind.Exclusive ≡ false = sym c.is_free.ensures ∙ c.if-is_free.false in
+    let queue = c.settle.ensures.queue (after key) (passed (before key) (after key) v c.leave.new.self c.leave.ensures.holders c.leave.ensures.waiting leaves.0 (queue_found before m.entries key (Some v) queues (found_there m at key k v index there))) in
+    absurd (false≢true (sym held ∙ empty_free (after key) w none (queue, c.settle.ensures.settled, c.settle.ensures.fits)))
+
+pub returns-else-is_free-clause-none_new : goal.returns-else-is_free-clause-none_new
+returns-else-is_free-clause-none_new c =
+    let m = c.args.self.now.queues in
+    let at = c.in-Some.at in
+    let key = c.args.key in
+    let k = c.pair_mut-queue.result.0.now in
+    let v = c.pair_mut-queue.result.1.now in
+    let index = sym c.in-Some.ensures.index in
+    let there = c.pair_mut-queue.ensures.value in
+    let w = c.settle.new.queue in
+    let mid = set_value_at m.entries at w in
+    let updated = set_there m at key k v index there w c.pair_mut-queue.ensures.unique in
+    none_is_new m.entries mid key (Some w) updated v (found_there m at key k v index there)
+
+pub returns-else-is_free-clause-waits : goal.returns-else-is_free-clause-waits
+returns-else-is_free-clause-waits c = λ waits.
+    let m = c.args.self.now.queues in
+    let at = c.in-Some.at in
+    let key = c.args.key in
+    let k = c.pair_mut-queue.result.0.now in
+    let v = c.pair_mut-queue.result.1.now in
+    let index = sym c.in-Some.ensures.index in
+    let there = c.pair_mut-queue.ensures.value in
+    let w = c.settle.new.queue in
+    passed_waits m.entries at key k v w there (found_there m at key k v index there) c.leave.new.self c.leave.ensures.waiting c.args.unreleased.now.places.entries c.settle.new.unreleased.places.entries c.settle.ensures.waits waits
+
+pub returns-then-is_free-clause-fits : goal.returns-then-is_free-clause-fits
+returns-then-is_free-clause-fits c =
+    let m = c.args.self.now.queues in
+    let at = c.in-Some.at in
+    let key = c.args.key in
+    let k = c.pair_mut-queue.result.0.now in
+    let v = c.pair_mut-queue.result.1.now in
+    let index = sym c.in-Some.ensures.index in
+    let there = c.pair_mut-queue.ensures.value in
+    let w = c.settle.new.queue in
+    let mid = set_value_at m.entries at w in
+    let updated = set_there m at key k v index there w c.pair_mut-queue.ensures.unique in
+    let gone = gone_there m at key k v index there w c.swap_remove_index-queue.result c.swap_remove_index-queue.ensures.entry c.swap_remove_index-queue.new.self c.swap_remove_index-queue.ensures.updates in
+    fits_gone mid c.swap_remove_index-queue.new.self.entries key gone (fits_set m.entries mid key w updated c.settle.ensures.fits c.requires.fits)
+
+pub returns-then-is_free-clause-queues : goal.returns-then-is_free-clause-queues
+returns-then-is_free-clause-queues c = λ before after queues leaves.
+    let m = c.args.self.now.queues in
+    let at = c.in-Some.at in
+    let key = c.args.key in
+    let k = c.pair_mut-queue.result.0.now in
+    let v = c.pair_mut-queue.result.1.now in
+    let index = sym c.in-Some.ensures.index in
+    let there = c.pair_mut-queue.ensures.value in
+    let w = c.settle.new.queue in
+    let mid = set_value_at m.entries at w in
+    let updated = set_there m at key k v index there w c.pair_mut-queue.ensures.unique in
+    let gone = gone_there m at key k v index there w c.swap_remove_index-queue.result c.swap_remove_index-queue.ensures.entry c.swap_remove_index-queue.new.self c.swap_remove_index-queue.ensures.updates in
+    let free : admits w.holders kind.Exclusive ≡ true = sym c.is_free.ensures ∙ c.if-is_free.true in
+    let here : IsQueueAt (after key) (Some w) = (c.settle.ensures.queue (after key) (passed (before key) (after key) v c.leave.new.self c.leave.ensures.holders c.leave.ensures.waiting leaves.0 (queue_found before m.entries key (Some v) queues (found_there m at key k v index there))), c.settle.ensures.settled, c.settle.ensures.fits) in
+    let half = changed before after m.entries mid key (Some w) queues (set_distinct m at key k v index there w c.pair_mut-queue.ensures.unique) updated here leaves.1 in
+    changed after after mid c.swap_remove_index-queue.new.self.entries key None half c.swap_remove_index-queue.ensures.unique gone (free_empty (after key) w free here) (λ x apart. refl)
+
+pub returns-then-is_free-clause-gone : goal.returns-then-is_free-clause-gone
+returns-then-is_free-clause-gone c = λ before after queues leaves none.
+    let m = c.args.self.now.queues in
+    let at = c.in-Some.at in
+    let key = c.args.key in
+    let k = c.pair_mut-queue.result.0.now in
+    let v = c.pair_mut-queue.result.1.now in
+    let index = sym c.in-Some.ensures.index in
+    let there = c.pair_mut-queue.ensures.value in
+    let w = c.settle.new.queue in
+    let mid = set_value_at m.entries at w in
+    let updated = set_there m at key k v index there w c.pair_mut-queue.ensures.unique in
+    let gone = gone_there m at key k v index there w c.swap_remove_index-queue.result c.swap_remove_index-queue.ensures.entry c.swap_remove_index-queue.new.self c.swap_remove_index-queue.ensures.updates in
+    none_here mid c.swap_remove_index-queue.new.self.entries key None gone refl
+
+pub returns-then-is_free-clause-none_new : goal.returns-then-is_free-clause-none_new
+returns-then-is_free-clause-none_new c = λ q none.
+    let m = c.args.self.now.queues in
+    let at = c.in-Some.at in
+    let key = c.args.key in
+    let k = c.pair_mut-queue.result.0.now in
+    let v = c.pair_mut-queue.result.1.now in
+    let index = sym c.in-Some.ensures.index in
+    let there = c.pair_mut-queue.ensures.value in
+    let w = c.settle.new.queue in
+    let mid = set_value_at m.entries at w in
+    let updated = set_there m at key k v index there w c.pair_mut-queue.ensures.unique in
+    let gone = gone_there m at key k v index there w c.swap_remove_index-queue.result c.swap_remove_index-queue.ensures.entry c.swap_remove_index-queue.new.self c.swap_remove_index-queue.ensures.updates in
+    none_is_new mid c.swap_remove_index-queue.new.self.entries key None gone w (queue_now m.entries mid key (Some w) updated) q (none_is_new m.entries mid key (Some w) updated v (found_there m at key k v index there) q none)
+
+pub returns-then-is_free-clause-waits : goal.returns-then-is_free-clause-waits
+returns-then-is_free-clause-waits c = λ waits.
+    let m = c.args.self.now.queues in
+    let at = c.in-Some.at in
+    let key = c.args.key in
+    let k = c.pair_mut-queue.result.0.now in
+    let v = c.pair_mut-queue.result.1.now in
+    let index = sym c.in-Some.ensures.index in
+    let there = c.pair_mut-queue.ensures.value in
+    let w = c.settle.new.queue in
+    let free : admits w.holders kind.Exclusive ≡ true = sym c.is_free.ensures ∙ c.if-is_free.true in
+    waits_alike (λ q. waits_of q (set_value_at m.entries at w)) (λ q. waits_of q c.swap_remove_index-queue.new.self.entries) c.settle.new.unreleased.places.entries (λ q.
+    let none = free_none w free c.settle.ensures.settled q in
+    let sum = sum_gone_there m at key k v index there w c.swap_remove_index-queue.result c.swap_remove_index-queue.ensures.entry c.swap_remove_index-queue.new.self (λ (x : Queue). waits_in q x.waiting.items) c.swap_remove_index-queue.ensures.entries in
+    omega (arith, none, sum))
+    (passed_waits m.entries at key k v w there (found_there m at key k v index there) c.leave.new.self c.leave.ensures.waiting c.args.unreleased.now.places.entries c.settle.new.unreleased.places.entries c.settle.ensures.waits waits)
