@@ -13,11 +13,11 @@ use calvin_app::App;
 use calvin_lock::Locks;
 use calvin_node_acts::{first_epoch, is_order_changed, scheduler_from};
 use calvin_node_sequencing::SequencingLayer;
+use calvin_order::PendingRequests;
 use calvin_store::{Rows, Snapshot};
 use calvin_synod::SynodRecord;
 use calvin_types::{Config, Fault, NodeId};
 use std::alloc::Global;
-use std::collections::VecDeque;
 use std::marker::Model;
 
 /// The promises and votes of a node, the greatest round that it used, and its last snapshot, if it has one: with the epoch at
@@ -62,7 +62,7 @@ impl<A: App, L: Locks + Drop, S: Rows<A::Row> + Drop> Node<A, L, S> {
         let own = self.layer.id().partition;
         self.scheduler = scheduler_from(self.alloc, self.layer.config(), own, &self.kept)?;
         self.layer.restart(first_epoch(&self.kept));
-        self.pending = VecDeque::new(self.alloc);
+        self.pending = PendingRequests::new(self.alloc);
         Ok(())
     }
 
@@ -103,7 +103,7 @@ impl<A: App, L: Locks + Drop, S: Rows<A::Row> + Drop> Node<A, L, S> {
         Ok(Node {
             alloc,
             layer: SequencingLayer::from_record(alloc, config, id, durable.synod, first),
-            pending: VecDeque::new(alloc),
+            pending: PendingRequests::new(alloc),
             scheduler,
             kept: durable.kept,
         })

@@ -24,12 +24,12 @@ impl<A: App, L: Locks + Drop, S: Rows<A::Row> + Drop> Node<A, L, S> {
     pub fn lock_next(&mut self) -> Result<(), Fault>
         ensures did { NodeDid {Reply = A.Reply} (act_grows self.old.config act.Lock self.old.state) result (acting.lock self.old.config self.old.state) self.old self.new [] [] }
     {
-        let Some((place, txn)) = self.pending.front() else {
+        let Some((place, txn)) = self.pending.first() else {
             return Err(Fault::NothingToLock);
         };
         self.scheduler.due_is_undone();
-        self.scheduler.admit(*place, txn)?;
-        let _locked = self.pending.pop_front();
+        self.scheduler.admit(place, txn)?;
+        self.pending.remove_first();
         Ok(())
     }
 

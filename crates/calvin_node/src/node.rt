@@ -9,11 +9,11 @@ ghost use Rattle.calvin_node_acts.specs.NodeStates.{new_node};
 use calvin_app::App;
 use calvin_lock::Locks;
 use calvin_node_sequencing::SequencingLayer;
+use calvin_order::PendingRequests;
 use calvin_sched::Scheduler;
 use calvin_store::{Rows, Snapshot};
-use calvin_types::{Batch, Config, NodeId, Place, Slot, Txn};
+use calvin_types::{Batch, Config, NodeId, Slot};
 use std::alloc::Global;
-use std::collections::VecDeque;
 use std::marker::Model;
 
 /// Partition p of replica r (Thomson et al. 2012, section 3): its sequencing layer, with a sequencer, which gathers requests
@@ -28,7 +28,7 @@ use std::marker::Model;
 pub struct Node<A: App, L: Locks + Drop, S: Rows<A::Row> + Drop> {
     pub(crate) alloc: Global,
     pub(crate) layer: SequencingLayer<A>,
-    pub(crate) pending: VecDeque<(Place, Txn<A::Args>)>,
+    pub(crate) pending: PendingRequests<A::Args>,
     pub(crate) scheduler: Scheduler<A, L, S>,
     pub(crate) kept: Option<(u64, Snapshot<A::Row>)>,
 }
@@ -43,7 +43,7 @@ impl<A: App, L: Locks + Drop, S: Rows<A::Row> + Drop> Model for Node<A, L, S> {
 
     ghost coded = { Prim.hlevel (codes, code) };
 
-    ghost view = { λ n. node_of n.layer (rest_of S.points S.cold n.pending.items n.scheduler n.kept) };
+    ghost view = { λ n. node_of n.layer (rest_of S.points S.cold n.pending.requests n.scheduler n.kept) };
 
     ghost invariant = { λ n. IsNode n.layer n.scheduler };
 }
@@ -57,7 +57,7 @@ impl<A: App, L: Locks + Drop, S: Rows<A::Row> + Drop> Node<A, L, S> {
         Node {
             alloc,
             layer: SequencingLayer::new(alloc, config, id),
-            pending: VecDeque::new(alloc),
+            pending: PendingRequests::new(alloc),
             scheduler: Scheduler::new(alloc, config, id.partition),
             kept: None,
         }

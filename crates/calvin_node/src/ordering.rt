@@ -8,7 +8,6 @@ ghost use Rattle.calvin_node_acts.specs.declared.act.Act.TheVariants as act;
 use crate::node::Node;
 use calvin_app::App;
 use calvin_lock::Locks;
-use calvin_node_acts::{append_merged, reserve_merged};
 use calvin_store::Rows;
 use calvin_types::Fault;
 
@@ -19,15 +18,16 @@ impl<A: App, L: Locks + Drop, S: Rows<A::Row> + Drop> Node<A, L, S> {
     pub fn merge(&mut self) -> Result<(), Fault>
         ensures did { NodeDid {Reply = A.Reply} (act_grows self.old.config act.Merge self.old.state) result (acting.merge self.old.config self.old.state) self.old self.new [] [] }
     {
-        let requests = self.layer.next_requests()?;
+        let segments = self.layer.next_segments()?;
         let Some(epoch) = self.layer.next_to_merge() else {
             return Err(Fault::NotComplete);
         };
         self.scheduler.due_is_undone();
-        reserve_merged(&mut self.pending, requests.len())?;
-        self.scheduler.merged(epoch, &requests)?;
+        self.pending.reserve(segments.len())?;
+        self.scheduler
+            .merged_batches(epoch, self.layer.config(), &self.layer)?;
         self.layer.pass_epoch();
-        append_merged(&mut self.pending, requests);
+        self.pending.append(segments);
         Ok(())
     }
 }

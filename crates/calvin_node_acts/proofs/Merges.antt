@@ -1,5 +1,5 @@
 -- What merging an epoch makes of a node.
-use Rattle.std.proofs.Common.{◌≡◌, ℕ, zero, suc, ◌+◌, ◌<◌, ◌≤◌, ◌⊎◌, inl, inr, Bool, true, false, cond, not, ◌&&◌, List, [], ◌∷◌, ◌++◌, length, None, Result, Ok, Err, refl, sym, ap, subst, ◌∙◌, arith}
+use Rattle.std.proofs.Common.{◌≡◌, ℕ, zero, suc, ◌+◌, ◌<◌, ◌≤◌, ◌⊎◌, inl, inr, Bool, true, false, cond, not, ◌&&◌, List, [], ◌∷◌, ◌++◌, length, Result, Ok, Err, refl, sym, ap, subst, ◌∙◌, arith}
 use Rattle.std.proofs.lemmas.Bool.{false≢true, and_parts, cases_lt, eq-eqb}
 use Rattle.std.proofs.lemmas.List.Elements.{filter-append}
 use Rattle.std.specs.List.{list_all, list_any, range_with_len}
@@ -12,9 +12,9 @@ use Rattle.calvin_types.specs.Orders.{Order}
 use Rattle.calvin_types.specs.Participants.{site, has_local_key}
 use Rattle.calvin_types.specs.Deeds.{Refuses, Does, Did}
 use Rattle.calvin_order.specs.Configs.{Config}
-use Rattle.calvin_order.specs.Merged.{Batch, joined, numbered}
+use Rattle.calvin_order.specs.Merged.{joined}
 use Rattle.calvin_order.specs.Merging.{Merging, HoldsAll, IsComplete, batch_at}
-use Rattle.calvin_order.proofs.Joining.{length-merged}
+use Rattle.calvin_order.proofs.Joining.{all_numbered, length-merged}
 use Rattle.calvin_sched.specs.Keeping.{Scheduled}
 use Rattle.calvin_sched.specs.Progress.{left, merge}
 use Rattle.calvin_sched.specs.Scheduling.{Scheduling, is_done}
@@ -68,10 +68,6 @@ some_request (e ∷ rest) some = refl
 some_of_any : {Args : Type 0} (p : (Place × _) → Bool) (order : Order Args) → list_any p order ≡ true → is_some_request order ≡ true
 some_of_any p [] h = h
 some_of_any p (e ∷ rest) h = refl
-
-all_numbered : {Args : Type 0} (e n : ℕ) (batch : Batch Args) → list_all (λ f. f.0.epoch == e) (numbered e n batch) ≡ true
-all_numbered e n [] = refl
-all_numbered e n (t ∷ ts) = ap (λ b. b && list_all (λ f. f.0.epoch == e) (numbered e (suc n) ts)) (eq-eqb e e refl) ∙ all_numbered e (suc n) ts
 
 module _ {Args Row : Type 0} (s : Scheduling Args Row) where
   -- what is left of what was left and of more

@@ -7,11 +7,9 @@ mod deciding;
 mod law;
 mod opening;
 mod serving;
-mod waiting;
 
 pub use act::Act;
 pub use deciding::{keep, make_room};
 pub use law::refuses;
 pub use opening::{first_epoch, has_kept, is_order_changed, scheduler_from};
 pub use serving::post_served;
-pub use waiting::{append_merged, reserve_merged};

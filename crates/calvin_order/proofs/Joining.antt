@@ -1,6 +1,9 @@
 -- The batches of one epoch joined, and their requests numbered.
-use Rattle.std.proofs.Common.{◌≡◌, Bool, true, false, cond, ℕ, zero, suc, ◌<◌, ◌≤◌, List, [], ◌∷◌, ◌++◌, inl, inr, length, map, refl, sym, ap, ◌∙◌, arith}
+use Rattle.std.proofs.Common.{◌≡◌, ◌&&◌, Bool, true, false, cond, ℕ, zero, suc, ◌<◌, ◌≤◌, List, [], ◌∷◌, ◌++◌, inl, inr, length, map, refl, sym, ap, ◌∙◌, arith}
+use Rattle.std.proofs.lemmas.Bool.{eq-eqb}
 use Rattle.std.proofs.lemmas.List.{map-append, length-map}
+use Rattle.std.specs.List.{list_all}
+use Rattle.std.specs.Prelude.{◌==◌}
 use Rattle.calvin_types.specs.declared.place.Slot.{Slot}
 use Rattle.calvin_types.specs.declared.place.Place.{Place}
 use Rattle.calvin_types.specs.declared.txn.Txn.{Txn}
@@ -26,6 +29,11 @@ module _ {Args : Type 0} where
   pub length-numbered : (e n : ℕ) (ts : Batch Args) → length (numbered e n ts) ≡ length ts
   length-numbered e n [] = refl
   length-numbered e n (t ∷ ts) = ap suc (length-numbered e (suc n) ts)
+
+  -- all of them stand at places of the epoch
+  pub all_numbered : (e n : ℕ) (ts : Batch Args) → list_all (λ f. f.0.epoch == e) (numbered e n ts) ≡ true
+  all_numbered e n [] = refl
+  all_numbered e n (t ∷ ts) = ap (λ b. b && list_all (λ f. f.0.epoch == e) (numbered e (suc n) ts)) (eq-eqb e e refl) ∙ all_numbered e (suc n) ts
 
   pub joined_same : (B C : Assignment Args) (e g : ℕ) → ((h : ℕ) → h < g → B (record { epoch = e; group = h }) ≡ C (record { epoch = e; group = h })) → joined B e g ≡ joined C e g
   joined_same B C e zero same = refl

@@ -13,3 +13,4 @@ pub mod Standing
 pub mod Walks
 pub mod Weaves
 pub mod SameOrders
+pub mod Segments

@@ -1,11 +1,13 @@
 -- How a proof tells what a merge holds and gives apart: by numbers, lists and pairs.
 use Rattle.std.specs.Prelude.{ℕ, Bool, Option, List, refl}
 use Rattle.calvin_types.specs.declared.place.Place.{Place}
+use Rattle.calvin_types.specs.declared.txn.Txn.{Txn}
 use Rattle.std.specs.Coded.{Coded, code_by, coded×, coded_ℕ, coded_bool, coded_option, coded_list}
 use Rattle.std.specs.FinMap.{code}
 use Rattle.calvin_types.specs.Codes.{coded_place, coded_slot, coded_txn}
 use Rattle.calvin_order.specs.Configs.{Config}
 use Rattle.calvin_order.specs.Merging.{Batches, Holding, Merging}
+use Rattle.calvin_order.specs.Waiting.{Waiting}
 
 abbrev pub coded_placed : {T : Type 0} → Coded T → Coded (List (Place × T))
 coded_placed items = coded_list (coded× coded_place items)
@@ -26,3 +28,6 @@ module _ {Args : Type 0} (args : Coded Args) where
   coded_merging = code_by ((Config × ℕ) × (Batches Args × (ℕ × ℕ))) (coded× (coded× coded_config coded_ℕ) (coded× coded_batches (coded× coded_ℕ coded_ℕ)))
       (λ m. ((m.config, m.next), (m.held, (m.room, m.ready))))
       (λ p. record { config = p.0.0; next = p.0.1; held = p.1.0; room = p.1.1.0; ready = p.1.1.1 }) (λ _. refl)
+
+  abbrev pub coded_waiting : Coded (Waiting Args)
+  coded_waiting = code_by (List (Place × Txn Args) × ℕ) (coded× (coded_placed (coded_txn args)) coded_ℕ) (λ w. (w.requests, w.room)) (λ p. record { requests = p.0; room = p.1 }) (λ _. refl)

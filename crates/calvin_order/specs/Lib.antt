@@ -6,3 +6,4 @@ pub mod Merging
 pub mod Rings
 pub mod Sequencing
 pub mod Walking
+pub mod Waiting

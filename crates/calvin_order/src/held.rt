@@ -1,13 +1,17 @@
 //! Batches by their slots.
-ghost use Rattle.std.specs.Prelude.{◌≡◌, ◌+◌, ◌*◌, ◌-◌, ◌<◌, ◌≤◌, ◌↔◌, ◌++◌, [], length, max, is_none, IfOk, IsOk, IsNone, IsTrue, OnOk, OnErr, IsOkUnless, vec_len, vec_capacity, if◌then◌else◌};
+ghost use Rattle.std.specs.Prelude.{◌≡◌, ◌+◌, ◌*◌, ◌-◌, ◌<◌, ◌≤◌, ◌↔◌, ◌++◌, [], length, max, is_none, IfErr, IfOk, IsOk, IsNone, IsTrue, OnOk, OnErr, IsOkUnless, vec_len, vec_capacity, if◌then◌else◌};
 ghost use Rattle.std.specs.Option.{option_copied};
 ghost use Rattle.std.specs.FinMap as map;
-ghost use Rattle.calvin_order.specs.Configs.{merged, order_config};
+ghost use Rattle.calvin_order.specs.Configs.{merged, order_config, together};
 ghost use Rattle.calvin_order.specs.Merged.{joined, numbered};
 ghost use Rattle.calvin_order.specs.Merging.{batch_at, HoldsAll, without_epoch};
+ghost use Rattle.calvin_order.specs.Walking.{flat};
 
-use crate::walk::{BatchSource, EpochRequests};
-use calvin_types::{Batch, Config, Fault, MOST_REQUESTS, Place, RoomMap, Slot, Txn};
+use crate::segment::MergedSegment;
+use crate::walk::{BatchSource, EpochRequests, count_requests, is_woven};
+use calvin_types::{
+    Batch, Config, Fault, MOST_PARTITIONS, MOST_REQUESTS, Place, RoomMap, Shared, Slot, Txn,
+};
 use std::alloc::Global;
 use std::marker::Model;
 
@@ -96,27 +100,12 @@ impl<Args: Copy> Held<Args> {
         true
     }
 
-    /// How many requests the batch for a slot has.
-    fn len_at(&self, slot: Slot) -> usize
-        ensures len { result ≡ length (batch_at self.now.batches slot) }
-        ensures at_most { result ≤ MOST_REQUESTS }
-    {
-        match self.get(slot) {
-            Some(batch) => batch.len(),
-            None => 0,
-        }
-    }
-
     /// How many requests the groups' batches for an epoch have.
     pub fn count(&self, epoch: u64, groups: u8) -> usize
         ensures count { result ≡ length (joined (batch_at self.now.batches) epoch groups) }
         ensures at_most { result ≤ MOST_REQUESTS * groups }
     {
-        let mut count = 0;
-        for group in 0..groups {
-            count += self.len_at(Slot { epoch, group });
-        }
-        count
+        count_requests(self, epoch, groups)
     }
 
     /// Appends the groups' requests for an epoch, each with its place.
@@ -127,6 +116,110 @@ impl<Args: Copy> Held<Args> {
     {
         for (place, txn) in EpochRequests::new(self, epoch, config) {
             out.push_reserved((place, *txn));
+        }
+    }
+
+    /// The groups' requests for an epoch, each at its place: where batches are joined, in the memory of the batches. Refused
+    /// with `OutOfMemory`, and only where there is a request.
+    pub fn segments(
+        &self,
+        alloc: Global,
+        epoch: u64,
+        config: &Config,
+    ) -> Result<Vec<MergedSegment<Args>>, Fault>
+        ensures merged { IfOk result (λ v. flat v.items ≡ merged (order_config config.now) (batch_at self.now.batches) epoch) }
+        ensures fewer { IfOk result (λ v. length v.items ≤ length (joined (batch_at self.now.batches) epoch config.now.partitions)) }
+        ensures refused { IfErr result (λ fault. (fault ≡ Fault.OutOfMemory) × (0 < length (joined (batch_at self.now.batches) epoch config.now.partitions))) }
+    {
+        if is_woven(config, epoch) {
+            self.woven_segment(alloc, epoch, config)
+        } else {
+            self.joined_segments(alloc, epoch, config.partitions)
+        }
+    }
+
+    /// One segment for each batch that has a request.
+    fn joined_segments(
+        &self,
+        alloc: Global,
+        epoch: u64,
+        groups: u8,
+    ) -> Result<Vec<MergedSegment<Args>>, Fault>
+        requires { groups ≤ MOST_PARTITIONS }
+        ensures joined { IfOk result (λ v. flat v.items ≡ numbered epoch 0 (joined (batch_at self.now.batches) epoch groups)) }
+        ensures fewer { IfOk result (λ v. length v.items ≤ length (joined (batch_at self.now.batches) epoch groups)) }
+        ensures refused { IfErr result (λ fault. (fault ≡ Fault.OutOfMemory) × (0 < length (joined (batch_at self.now.batches) epoch groups))) }
+    {
+        let mut segments = Vec::new(alloc);
+        let mut n = 0;
+        for group in 0..groups {
+            n = self.push_segment(Slot { epoch, group }, n, &mut segments)?;
+        }
+        Ok(segments)
+    }
+
+    /// Appends the batch of a slot, whose first request has this number, where it has a request. Answers the number of the
+    /// request behind it.
+    fn push_segment(
+        &self,
+        slot: Slot,
+        n: u32,
+        out: &mut Vec<MergedSegment<Args>>,
+    ) -> Result<u32, Fault>
+        requires before { n ≤ MOST_REQUESTS * slot.group }
+        requires group { slot.group < MOST_PARTITIONS }
+        ensures next { IfOk result (λ next. next ≡ n + length (batch_at self.now.batches slot)) }
+        ensures few { IfOk result (λ next. next ≤ n + MOST_REQUESTS) }
+        ensures fewer { OnOk result (length out.new.items ≤ length out.old.items + length (batch_at self.now.batches slot)) }
+        ensures segments { OnOk result (flat out.new.items ≡ flat out.old.items ++ numbered slot.epoch n (batch_at self.now.batches slot)) }
+        ensures refused { IfErr result (λ fault. (fault ≡ Fault.OutOfMemory) × (0 < length (batch_at self.now.batches slot))) }
+    {
+        let Some(batch) = self.get(slot) else {
+            return Ok(n);
+        };
+        let size = batch.len();
+        if size == 0 {
+            return Ok(n);
+        }
+        let place = Place {
+            epoch: slot.epoch,
+            n,
+        };
+        out.push(MergedSegment::new(place, batch.share()?))?;
+        Ok(n + size as u32)
+    }
+
+    /// One segment of all requests, where there is one: they are copied in their order.
+    fn woven_segment(
+        &self,
+        alloc: Global,
+        epoch: u64,
+        config: &Config,
+    ) -> Result<Vec<MergedSegment<Args>>, Fault>
+        ensures merged { IfOk result (λ v. flat v.items ≡ merged (order_config config.now) (batch_at self.now.batches) epoch) }
+        ensures fewer { IfOk result (λ v. length v.items ≤ length (joined (batch_at self.now.batches) epoch config.now.partitions)) }
+        ensures refused { IfErr result (λ fault. (fault ≡ Fault.OutOfMemory) × (0 < length (joined (batch_at self.now.batches) epoch config.now.partitions))) }
+    {
+        let mut segments = Vec::new(alloc);
+        let count = self.count(epoch, config.partitions);
+        if count == 0 {
+            return Ok(segments);
+        }
+        let mut requests = Vec::with_capacity(alloc, count)?;
+        self.copy_all(epoch, config, &mut requests);
+        let requests = Shared::new(alloc, requests)?;
+        segments.push(MergedSegment::new(Place { epoch, n: 0 }, requests))?;
+        Ok(segments)
+    }
+
+    /// Appends the groups' requests for an epoch in their order.
+    fn copy_all(&self, epoch: u64, config: &Config, out: &mut Vec<Txn<Args>>)
+        requires empty { out.old.items ≡ [] }
+        requires room { length (joined (batch_at self.now.batches) epoch config.now.partitions) ≤ vec_capacity out.old }
+        ensures { out.new.items ≡ together (order_config config.now) (batch_at self.now.batches) epoch }
+    {
+        for (_, txn) in EpochRequests::new(self, epoch, config) {
+            out.push_reserved(*txn);
         }
     }
 }

@@ -7,13 +7,17 @@ mod held;
 mod held_back;
 mod history;
 mod merge;
+mod pending;
 mod queue;
 mod same;
+mod segment;
 mod sequencer;
 mod turns;
 mod walk;
 
 pub use merge::{Merge, orders_rise};
+pub use pending::PendingRequests;
 pub use same::same_orders;
+pub use segment::MergedSegment;
 pub use sequencer::Sequencer;
-pub use walk::{BatchSource, EpochRequests};
+pub use walk::{BatchSource, EpochRequests, count_requests};

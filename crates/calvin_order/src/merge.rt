@@ -6,8 +6,10 @@ ghost use Rattle.calvin_types.specs.Orders.{Rises};
 ghost use Rattle.calvin_order.specs.Configs.{merged, order_config, OrdersRise};
 ghost use Rattle.calvin_order.specs.Merged.{joined};
 ghost use Rattle.calvin_order.specs.Merging.{held_by, with_batch, without_epoch, IsComplete, IsReady};
+ghost use Rattle.calvin_order.specs.Walking.{flat};
 
 use crate::held::Held;
+use crate::segment::MergedSegment;
 use crate::walk::BatchSource;
 use calvin_types::{Batch, Config, Fault, Place, Slot, Txn};
 use std::alloc::Global;
@@ -170,11 +172,12 @@ impl<Args: Copy> Merge<Args> {
         Ok(requests)
     }
 
-    /// The requests of the next epoch as `take_epoch` gives them, for a caller who goes on with `pass_epoch` once it has
-    /// found room for them: nothing is taken. Refused as `take_epoch` is, and with `OutOfMemory` only where there is a
-    /// request.
-    pub fn next_requests(&self) -> Result<Vec<(Place, Txn<Args>)>, Fault>
-        ensures merged { IfOk result (λ v. v.items ≡ merged self.now.config (held_by self.now) self.now.next) }
+    /// The requests of the next epoch in the order in which `take_epoch` gives them, for a caller who goes on with
+    /// `pass_epoch` once it has found room for them: nothing is taken, and where batches are joined none is copied. Refused as
+    /// `take_epoch` is, and with `OutOfMemory` only where there is a request.
+    pub fn next_segments(&self) -> Result<Vec<MergedSegment<Args>>, Fault>
+        ensures merged { IfOk result (λ v. flat v.items ≡ merged self.now.config (held_by self.now) self.now.next) }
+        ensures fewer { IfOk result (λ v. length v.items ≤ length (joined (held_by self.now) self.now.next self.now.config.partitions)) }
         ensures complete { OnOk result (IsComplete self.now) }
         ensures not_complete { IsErrOf result Fault.NotComplete ↔ ¬ IsComplete self.now }
         ensures only { IfErr result (λ fault. (fault ≡ Fault.NotComplete) ⊎ ((fault ≡ Fault.OutOfMemory) × (0 < length (joined (held_by self.now) self.now.next self.now.config.partitions)))) }
@@ -182,10 +185,7 @@ impl<Args: Copy> Merge<Args> {
         let Some(epoch) = self.complete() else {
             return Err(Fault::NotComplete);
         };
-        let mut requests = Vec::new(self.alloc);
-        requests.reserve(self.held.count(epoch, self.config.partitions))?;
-        self.held.append_all(epoch, &self.config, &mut requests);
-        Ok(requests)
+        self.held.segments(self.alloc, epoch, &self.config)
     }
 
     /// Makes room for what is held for the next epoch, so that `take_epoch`, made next, isn't refused with

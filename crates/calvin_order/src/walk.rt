@@ -1,10 +1,11 @@
 //! The requests of one epoch in merged order.
-ghost use Rattle.std.specs.Prelude.{◌≡◌, ◌+◌, ◌<◌, ◌≤◌, List, [], ◌∷◌, ◌++◌, length, is_some, MatchOption};
+ghost use Rattle.std.specs.Prelude.{◌≡◌, ◌+◌, ◌*◌, ◌<◌, ◌≤◌, List, [], ◌∷◌, ◌++◌, length, is_some, MatchOption};
 ghost use Rattle.std.specs.Option.{unwrap_or};
 ghost use Rattle.std.specs.Iterator.{at_most};
 ghost use Rattle.std.specs.Map.Iter.{TakesFirst};
 ghost use Rattle.calvin_types.specs.declared.place.Slot.{Slot as TheSlot};
 ghost use Rattle.calvin_order.specs.Configs.{is_woven, merged, order_config};
+ghost use Rattle.calvin_order.specs.Merged.{joined};
 ghost use Rattle.calvin_order.specs.Walking.{flat, left_behind, placed, IsTurn};
 
 use crate::turns::Turns;
@@ -22,8 +23,20 @@ pub trait BatchSource<T> {
         ensures at_most { length result.now ≤ MOST_REQUESTS };
 }
 
+/// How many requests the batches of an epoch have together, of so many groups.
+pub fn count_requests<T, B: BatchSource<T>>(batches: &B, epoch: u64, groups: u8) -> usize
+    ensures count { result ≡ length (joined (B.assignment batches.now) epoch groups) }
+    ensures at_most { result ≤ MOST_REQUESTS * groups }
+{
+    let mut count = 0;
+    for group in 0..groups {
+        count += batches.requests(Slot { epoch, group }).len();
+    }
+    count
+}
+
 /// Whether the batches of an epoch are woven.
-fn is_woven(config: &Config, epoch: u64) -> bool
+pub(crate) fn is_woven(config: &Config, epoch: u64) -> bool
     ensures { result ≡ is_woven config.now.woven_from epoch }
 {
     match config.woven_from {

@@ -18,6 +18,7 @@ mod snapshots;
 mod telling;
 mod turn;
 mod turns;
+mod walking;
 
 pub use law::{due_is, ready_is};
 pub use phase::Phase;

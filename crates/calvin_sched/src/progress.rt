@@ -135,7 +135,20 @@ impl Progress {
         ensures err { OnErr result (self.new.room ≡ self.old.room) }
         ensures refused { IfErr result (λ fault. (fault ≡ Fault.OutOfMemory) × (self.old.room < length (local_places (site config.now.partitions partition) entries.now))) }
     {
-        let places = count_local(entries, config, partition);
+        self.reserve_places(count_local(entries, config, partition))
+    }
+
+    /// Room for so many places.
+    pub fn reserve_places(&mut self, places: usize) -> Result<(), Fault>
+        requires { HasReserved self.old }
+        ensures merged { self.new.merged ≡ self.old.merged }
+        ensures done { self.new.done ≡ self.old.done }
+        ensures due { self.new.due.items ≡ self.old.due.items }
+        ensures reserved { HasReserved self.new }
+        ensures ok { OnOk result (self.new.room ≡ max places self.old.room) }
+        ensures err { OnErr result (self.new.room ≡ self.old.room) }
+        ensures refused { IfErr result (λ fault. (fault ≡ Fault.OutOfMemory) × (self.old.room < places)) }
+    {
         if places > self.room {
             self.due.reserve(places)?;
             self.room = places;
@@ -159,14 +172,10 @@ impl Progress {
         ensures err { OnErr result (self.new.room ≡ self.old.room) }
         ensures refused { IfErr result (λ fault. (fault ≡ Fault.OutOfMemory) × (self.old.room < length (local_places (site config.now.partitions partition) entries.now))) }
     {
-        if entries.len() <= self.room {
-            return Ok(());
+        match self.reserve_places(entries.len()) {
+            Ok(()) => Ok(()),
+            Err(_) => self.reserve(entries, config, partition),
         }
-        if self.due.reserve(entries.len()).is_ok() {
-            self.room = entries.len();
-            return Ok(());
-        }
-        self.reserve(entries, config, partition)
     }
 
     /// An epoch is merged and has these requests: the places of those with a key that is stored in the partition are due.

@@ -4,6 +4,7 @@ ghost use Rattle.std.specs.List.{list_any};
 ghost use Rattle.std.specs.FinMap as map;
 ghost use Rattle.calvin_types.specs.Deeds.{Refuses, Did};
 ghost use Rattle.calvin_types.specs.Participants.{site, has_local_key, is_active};
+ghost use Rattle.calvin_order.specs.Configs.{merged, order_config};
 ghost use Rattle.calvin_order.specs.Merged.{end_of};
 ghost use Rattle.calvin_sched.specs.Keeping.{awaited, awaits_at, IsFirstReadyHere, IsNotDue, Finished};
 ghost use Rattle.calvin_sched.specs.Progress.{left, merge};
@@ -20,6 +21,7 @@ use crate::turn::Turn;
 use crate::turns::Turns;
 use calvin_app::{Answer, App, Computed, Job, View, is_same_job};
 use calvin_lock::Locks;
+use calvin_order::{BatchSource, EpochRequests, count_requests};
 use calvin_store::{Rows, Snapshot};
 use calvin_types::{Config, Fault, Place, Txn};
 use std::alloc::Global;
@@ -387,6 +389,31 @@ impl<A: App, L: Locks + Drop, S: Rows<A::Row> + Drop> Scheduler<A, L, S> {
             .reserve_for_all(entries, &self.config, self.partition)?;
         self.progress
             .merge(epoch, entries, &self.config, self.partition);
+        self.progress.skip_done(self.opened, &self.turns);
+        Ok(())
+    }
+
+    /// Tells the same of an epoch of as many groups as there are partitions, whose requests are looked at where its batches
+    /// lie: none is copied.
+    pub fn merged_batches<B: BatchSource<Txn<A::Args>>>(
+        &mut self,
+        epoch: u64,
+        config: &Config,
+        batches: &B,
+    ) -> Result<(), Fault>
+        ensures did { Did (list_any (λ e. has_local_key self.old.here e.1) (merged (order_config config.now) (B.assignment batches.now) epoch))
+            result (merge epoch (merged (order_config config.now) (B.assignment batches.now) epoch) self.old) self.old self.new }
+    {
+        if !self.progress.is_at(epoch) {
+            return Err(Fault::AdmittedOutOfOrder);
+        }
+        let most = count_requests(batches, epoch, config.partitions);
+        let requests = EpochRequests::new(batches, epoch, config);
+        self.progress
+            .reserve_for_walk(most, requests, &self.config, self.partition)?;
+        let requests = EpochRequests::new(batches, epoch, config);
+        self.progress
+            .merge_walk(epoch, requests, &self.config, self.partition);
         self.progress.skip_done(self.opened, &self.turns);
         Ok(())
     }

@@ -1,4 +1,4 @@
-use Rattle.std.proofs.Common.{◌≡◌, ◌++◌, true, false, Ok, sym, ap, subst, ◌∙◌}
+use Rattle.std.proofs.Common.{◌≡◌, ◌++◌, true, false, Ok, sym, subst, ◌∙◌}
 use Rattle.std.proofs.lemmas.List.{append-nil}
 use Rattle.calvin_types.specs.Deeds.{Did}
 use Rattle.calvin_sched.specs.Progress.{left}
@@ -22,7 +22,7 @@ use Rattle.calvin_node.proofs.node.Node.begin.Goals as goal
 pub returns-then-not-serves_others : goal.returns-then-not-serves_others
 returns-then-not-serves_others g c =
     let p = c.self.inside in
-    let below = rest_of g.S.Rows.points g.S.Rows.cold p.pending.items p.scheduler p.kept in
+    let below = rest_of g.S.Rows.points g.S.Rows.cold p.pending.requests p.scheduler p.kept in
     let x = state_of p.layer below in
     let config = over p.layer.config g.S.Rows.points g.S.Rows.cold in
     let reply = g.row.A-Reply.Denot in
@@ -43,7 +43,7 @@ returns-then-not-serves_others g c =
 pub returns : goal.returns
 returns g c =
     let p = c.self.inside in
-    let below = rest_of g.S.Rows.points g.S.Rows.cold p.pending.items p.scheduler p.kept in
+    let below = rest_of g.S.Rows.points g.S.Rows.cold p.pending.requests p.scheduler p.kept in
     let x = state_of p.layer below in
     let config = over p.layer.config g.S.Rows.points g.S.Rows.cold in
     let reply = g.row.A-Reply.Denot in

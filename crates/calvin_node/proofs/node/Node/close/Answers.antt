@@ -11,5 +11,5 @@ invariant_of-self g c = let p = c.self.inside in still_node p.layer c.close.new.
 pub returns : goal.returns
 returns g c =
     let p = c.self.inside in
-    let below = rest_of g.S.Rows.points g.S.Rows.cold p.pending.items p.scheduler p.kept in
+    let below = rest_of g.S.Rows.points g.S.Rows.cold p.pending.requests p.scheduler p.kept in
     record { did = subst (λ v. NodeDid {Reply = g.row.A-Reply.Denot} true c.close.result (acting.close v.config v.state) v (node_of c.close.new.self below) [] []) c.self.view_is (c.close.ensures.did below) }

@@ -25,7 +25,7 @@ push_reserved-requires g c = (packet_of (lone g.row.A-Args.mir) (lone g.row.A-Ro
 pub returns-in_err-name : goal.returns-in_err-name
 returns-in_err-name g c =
     let p = c.self.inside in
-    let below = rest_of g.S.Rows.points g.S.Rows.cold p.pending.items p.scheduler p.kept in
+    let below = rest_of g.S.Rows.points g.S.Rows.cold p.pending.requests p.scheduler p.kept in
     let x = state_of p.layer below in
     let config = over p.layer.config g.S.Rows.points g.S.Rows.cold in
     let m = g.A.App.meaning in
@@ -46,7 +46,7 @@ returns-in_err-name g c =
 pub returns : goal.returns
 returns g c =
     let p = c.self.inside in
-    let below = rest_of g.S.Rows.points g.S.Rows.cold p.pending.items p.scheduler p.kept in
+    let below = rest_of g.S.Rows.points g.S.Rows.cold p.pending.requests p.scheduler p.kept in
     let x = state_of p.layer below in
     let config = over p.layer.config g.S.Rows.points g.S.Rows.cold in
     let m = g.A.App.meaning in

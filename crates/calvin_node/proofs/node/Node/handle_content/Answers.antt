@@ -18,7 +18,7 @@ invariant_of-self g c = let p = c.self.inside in still_node p.layer c.on_synod.n
 pub returns-in-Synod : goal.returns-in-Synod
 returns-in-Synod g c =
     let p = c.self.inside in
-    let below = rest_of g.S.Rows.points g.S.Rows.cold p.pending.items p.scheduler p.kept in
+    let below = rest_of g.S.Rows.points g.S.Rows.cold p.pending.requests p.scheduler p.kept in
     let x = node_of p.layer below in
     let sent = c.args.outbox.now.packets in
     record {
@@ -32,7 +32,7 @@ invariant_of-self-in-Decided g c = let p = c.self-in-Decided.inside in still_nod
 pub returns-in-Decided : goal.returns-in-Decided
 returns-in-Decided g c =
     let p = c.self-in-Decided.inside in
-    let below = rest_of g.S.Rows.points g.S.Rows.cold p.pending.items p.scheduler p.kept in
+    let below = rest_of g.S.Rows.points g.S.Rows.cold p.pending.requests p.scheduler p.kept in
     let x = node_of p.layer below in
     let sent = c.args.outbox.now.packets in
     let reply = g.row.A-Reply.Denot in
@@ -45,7 +45,7 @@ returns-in-Decided g c =
 pub returns-in-AskBatch : goal.returns-in-AskBatch
 returns-in-AskBatch g c =
     let p = c.self-in-AskBatch.inside in
-    let below = rest_of g.S.Rows.points g.S.Rows.cold p.pending.items p.scheduler p.kept in
+    let below = rest_of g.S.Rows.points g.S.Rows.cold p.pending.requests p.scheduler p.kept in
     let x = node_of p.layer below in
     let sent = c.args.outbox.now.packets in
     record {

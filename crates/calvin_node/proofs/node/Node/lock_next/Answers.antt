@@ -1,5 +1,7 @@
 use Rattle.std.proofs.Common.{[], drop, Ok, Err, sym, ap, subst, ◌∙◌}
 use Rattle.std.proofs.lemmas.Result.{err_from_is_err_and}
+use Rattle.calvin_types.specs.declared.place.Place.{Place}
+use Rattle.calvin_types.specs.declared.txn.Txn.{Txn}
 use Rattle.calvin_types.specs.Participants.{site, has_local_key}
 use Rattle.calvin_types.specs.Deeds.{Did}
 use Rattle.calvin_sched.specs.Progress.{left}
@@ -10,18 +12,18 @@ use Rattle.calvin_node_acts.specs.Growing.{act_grows}
 use Rattle.calvin_node_acts.specs.Layers.{rest_of, state_of}
 use Rattle.calvin_order.specs.Configs.{over}
 use Rattle.calvin_node_acts.specs.Running.{NodeDid}
-use Rattle.calvin_node_acts.proofs.Settling.{running, with_steps, left_again, locked, not_locked, first_and_rest}
+use Rattle.calvin_node_acts.proofs.Settling.{running, with_steps, left_again, locked, not_locked}
 use Rattle.calvin_node.proofs.node.Node.lock_next.Goals as goal
 
 pub returns-in_err-admit : goal.returns-in_err-admit
 returns-in_err-admit g c =
     let p = c.self.inside in
-    let below = rest_of g.S.Rows.points g.S.Rows.cold p.pending.items p.scheduler p.kept in
+    let below = rest_of g.S.Rows.points g.S.Rows.cold p.pending.requests p.scheduler p.kept in
     let x = state_of p.layer below in
     let config = over p.layer.config g.S.Rows.points g.S.Rows.cold in
-    let e = c.in-Some.field-0.now in
-    let rest = drop 1 p.pending.items in
-    let there = first_and_rest p.pending.items e c.in-Some.ensures.item.3.0 c.in-Some.ensures.lookup in
+    let e : Place × Txn g.row.A-Args.Denot = (c.in-Some.place, c.in-Some.txn.now) in
+    let rest = drop 1 p.pending.requests in
+    let there = c.in-Some.ensures in
     let refused = err_from_is_err_and c.from_residual.result c.from_residual.ensures.1 in
     let here = site p.layer.config.partitions p.layer.id.partition in
     let s = c.admit.new.self.scheduling in
@@ -40,21 +42,21 @@ returns-in_err-admit g c =
 pub returns : goal.returns
 returns g c =
     let p = c.self.inside in
-    let below = rest_of g.S.Rows.points g.S.Rows.cold p.pending.items p.scheduler p.kept in
+    let below = rest_of g.S.Rows.points g.S.Rows.cold p.pending.requests p.scheduler p.kept in
     let x = state_of p.layer below in
     let config = over p.layer.config g.S.Rows.points g.S.Rows.cold in
-    let e = c.in-Some.field-0.now in
-    let rest = drop 1 p.pending.items in
-    let there = first_and_rest p.pending.items e c.in-Some.ensures.item.3.0 c.in-Some.ensures.lookup in
+    let e : Place × Txn g.row.A-Args.Denot = (c.in-Some.place, c.in-Some.txn.now) in
+    let rest = drop 1 p.pending.requests in
+    let there = c.in-Some.ensures in
     let here = site p.layer.config.partitions p.layer.id.partition in
     let s = c.admit.new.self.scheduling in
     let undone = c.due_is_undone.ensures in
     let did = subst (λ h. Did (has_local_key h e.1) (Ok tt) (steps.admit h e.0 e.1 p.scheduler.scheduling) p.scheduler.scheduling s) c.self.invariant.here c.in_ok-admit.ensures.did in
     record {
       did = subst (λ v. NodeDid {Reply = g.row.A-Reply.Denot} (act_grows v.config Lock v.state) (Ok tt) (acting.lock v.config v.state) v
-          (running config (record x { scheduler = s; pending = c.pop_front-locked.new.self.items; due = left s c.admit.new.self.due })) [] []) c.self.view_is
+          (running config (record x { scheduler = s; pending = c.remove_first.new.self.requests; due = left s c.admit.new.self.due })) [] []) c.self.view_is
           (subst (λ l. NodeDid {Reply = g.row.A-Reply.Denot} (act_grows config Lock x) (Ok tt) (acting.lock config x) (running config x) (running config (record x { scheduler = s; pending = l; due = left s c.admit.new.self.due })) [] [])
-          (sym c.pop_front-locked.ensures.rest)
+          (sym c.remove_first.ensures)
           (subst (λ d. NodeDid {Reply = g.row.A-Reply.Denot} (act_grows config Lock x) (Ok tt) (acting.lock config x) (running config x) (running config (record x { scheduler = s; pending = rest; due = left s d })) [] [])
           (undone ∙ sym (ap (λ n. n.due) c.in_ok-admit.ensures.rest))
           (subst (λ l. NodeDid {Reply = g.row.A-Reply.Denot} (act_grows config Lock (record x { pending = l })) (Ok tt) (acting.lock_first config x l) (running config x) (running config (with_steps x s rest)) [] []) (sym there)

@@ -12,7 +12,7 @@ use Rattle.calvin_node.proofs.node.Node.mark.Goals as goal
 pub returns : goal.returns
 returns g c =
     let p = c.self.inside in
-    let below = rest_of g.S.Rows.points g.S.Rows.cold p.pending.items p.scheduler p.kept in
+    let below = rest_of g.S.Rows.points g.S.Rows.cold p.pending.requests p.scheduler p.kept in
     let x = state_of p.layer below in
     let config = over p.layer.config g.S.Rows.points g.S.Rows.cold in
     let s = c.mark.new.self.scheduling in

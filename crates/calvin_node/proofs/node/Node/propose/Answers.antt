@@ -11,5 +11,5 @@ invariant_of-self g c = let p = c.self.inside in still_node p.layer c.propose.ne
 pub returns : goal.returns
 returns g c =
     let p = c.self.inside in
-    let below = rest_of g.S.Rows.points g.S.Rows.cold p.pending.items p.scheduler p.kept in
+    let below = rest_of g.S.Rows.points g.S.Rows.cold p.pending.requests p.scheduler p.kept in
     record { did = subst (λ v. NodeDid true c.propose.result (acting.propose v.config c.args.epoch v.state) v (node_of c.propose.new.self below) c.args.outbox.now.packets c.propose.new.outbox.packets) c.self.view_is (c.propose.ensures.did below) }

@@ -11,5 +11,5 @@ invariant_of-self g c = let p = c.self.inside in still_node p.layer c.submit_col
 pub returns : goal.returns
 returns g c =
     let p = c.self.inside in
-    let below = rest_of g.S.Rows.points g.S.Rows.cold p.pending.items p.scheduler p.kept in
+    let below = rest_of g.S.Rows.points g.S.Rows.cold p.pending.requests p.scheduler p.kept in
     record { did = subst (λ v. NodeDid true c.submit_cold.result (acting.submit_cold v.config c.args.txn v.state) v (node_of c.submit_cold.new.self below) c.args.outbox.now.packets c.submit_cold.new.outbox.packets) c.self.view_is (c.submit_cold.ensures.did below) }

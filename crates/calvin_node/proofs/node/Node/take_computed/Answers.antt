@@ -28,7 +28,7 @@ returns-then-is_err g c =
 pub returns-in_err-answer : goal.returns-in_err-answer
 returns-in_err-answer g c =
     let p = c.self.inside in
-    let below = rest_of g.S.Rows.points g.S.Rows.cold p.pending.items p.scheduler p.kept in
+    let below = rest_of g.S.Rows.points g.S.Rows.cold p.pending.requests p.scheduler p.kept in
     let x = state_of p.layer below in
     let config = over p.layer.config g.S.Rows.points g.S.Rows.cold in
     let reply = g.row.A-Reply.Denot in
@@ -50,7 +50,7 @@ returns-in_err-answer g c =
 pub returns : goal.returns
 returns g c =
     let p = c.self.inside in
-    let below = rest_of g.S.Rows.points g.S.Rows.cold p.pending.items p.scheduler p.kept in
+    let below = rest_of g.S.Rows.points g.S.Rows.cold p.pending.requests p.scheduler p.kept in
     let x = state_of p.layer below in
     let config = over p.layer.config g.S.Rows.points g.S.Rows.cold in
     let reply = g.row.A-Reply.Denot in

@@ -8,7 +8,6 @@ use Rattle.calvin_node_packets.specs.declared.packet.Address.TheVariants.{AtNode
 use Rattle.calvin_node_packets.specs.declared.packet.Content.TheVariants.{AskBatch}
 use Rattle.calvin_node_packets.proofs.PacketSizes.{packet_of}
 use Rattle.calvin_node_acts.specs.Acting as acting
-use Rattle.calvin_node_acts.specs.Handling.{NodeDeed}
 use Rattle.calvin_node_acts.specs.Layers.{layer_of, state_of, node_of}
 use Rattle.calvin_node_acts.specs.Running.{NodeDid}
 use Rattle.calvin_node_acts.proofs.Settling.{running, left_again, copied_some, config_at}

@@ -1,7 +1,6 @@
 use denote.Memory.{lone}
 use Rattle.std.proofs.Common.{◌≡◌, ◌∷◌, [], true, Some, sym, subst, ◌∙◌}
 use Rattle.std.specs.FinMap.{get}
-use Rattle.calvin_types.specs.Deeds.{Does}
 use Rattle.calvin_node_packets.specs.declared.packet.Address.TheVariants.{AtNode}
 use Rattle.calvin_node_packets.specs.declared.packet.Content.TheVariants.{Decided}
 use Rattle.calvin_node_packets.proofs.PacketSizes.{packet_of}

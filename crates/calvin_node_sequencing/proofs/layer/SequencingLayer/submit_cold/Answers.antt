@@ -1,4 +1,4 @@
-use Rattle.std.proofs.Common.{◌≡◌, ◌++◌, true, not, Ok, sym, ap, subst, ◌∙◌}
+use Rattle.std.proofs.Common.{◌++◌, true, not, Ok, sym, ap, subst, ◌∙◌}
 use Rattle.calvin_order.specs.Keeping.{can_submit_cold}
 use Rattle.calvin_order.specs.Sequencing as sequencing
 use Rattle.calvin_node_packets.specs.Packets.{warm_packets, participants}

@@ -1,0 +1,77 @@
+//! Requests that follow one another in the merged order.
+ghost use Rattle.std.specs.Prelude.{◌≡◌, ◌+◌, ◌*◌, ◌<◌, ◌≤◌, ◌∷◌, [], length, drop, MatchOption};
+ghost use Rattle.calvin_order.specs.Merged.{numbered};
+ghost use Rattle.calvin_order.specs.Walking.{placed};
+
+use calvin_types::{MOST_PARTITIONS, MOST_REQUESTS, Place, Shared, Txn};
+use std::marker::Model;
+
+/// One or more requests of an epoch that follow one another in the merged order, each at its place. They lie in memory that
+/// is shared, as that of the batch in which they were agreed upon, and none is copied.
+#[derive(Drop)]
+pub struct MergedSegment<Args> {
+    requests: Shared<Txn<Args>>,
+    // how many of them were given already
+    given: usize,
+    // the place of the next one
+    place: Place,
+}
+
+impl<Args> Model for MergedSegment<Args> {
+    ghost use Rattle.std.specs.Prelude.{◌+◌, ◌-◌, ◌*◌, ◌<◌, ◌≤◌, length, drop};
+    ghost use Rattle.calvin_types.specs.Codes.{coded_txn};
+    ghost use Rattle.calvin_types.specs.Orders.{Order};
+    ghost use Rattle.calvin_types.specs.declared.limits.TheConstants.{MOST_PARTITIONS, MOST_REQUESTS};
+    ghost use Rattle.calvin_order.specs.Codes.{coded_placed};
+    ghost use Rattle.calvin_order.specs.Merged.{numbered};
+
+    ghost Value = { Order Args };
+
+    ghost coded = { coded_placed (coded_txn Args.code) };
+
+    ghost view = { λ s. numbered s.place.epoch s.place.n (drop s.given s.requests) };
+
+    ghost invariant = { λ s. (s.given < length s.requests) × (s.place.n + (length s.requests - s.given) ≤ MOST_REQUESTS * MOST_PARTITIONS) };
+}
+
+impl<Args: Copy> MergedSegment<Args> {
+    /// These requests, the first of them at a place: there is one, and no more than an epoch has places.
+    pub fn new(place: Place, requests: Shared<Txn<Args>>) -> MergedSegment<Args>
+        requires some { 0 < length requests }
+        requires few { place.n + length requests ≤ MOST_REQUESTS * MOST_PARTITIONS }
+        ensures { result ≡ numbered place.epoch place.n requests }
+    {
+        MergedSegment {
+            requests,
+            given: 0,
+            place,
+        }
+    }
+
+    /// The first request, at its place.
+    pub fn first(&self) -> (Place, &Txn<Args>)
+        ensures { self.now ≡ placed result ∷ drop 1 self.now }
+    {
+        (self.place, &self.requests.as_slice()[self.given])
+    }
+
+    /// What is left without the first request, if there is another.
+    pub fn without_first(self) -> Option<MergedSegment<Args>>
+        ensures some { 0 < length self }
+        ensures rest { MatchOption result (drop 1 self ≡ []) (λ rest. rest ≡ drop 1 self) }
+    {
+        let size = self.requests.as_slice().len();
+        if self.given + 1 == size {
+            return None;
+        }
+        let place = Place {
+            epoch: self.place.epoch,
+            n: self.place.n + 1,
+        };
+        Some(MergedSegment {
+            requests: self.requests,
+            given: self.given + 1,
+            place,
+        })
+    }
+}
