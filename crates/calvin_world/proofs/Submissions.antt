@@ -51,7 +51,8 @@ use Rattle.calvin_bench.proofs.Lists.{only_in, set_here, set_other, get_map, con
 use Rattle.calvin_world.proofs.Mirror.{one_chosen}
 use Rattle.calvin_world.proofs.Kept.{AreQuiet, none_quiet, quiet_says_nothing, sent_cases, Kept, chosen_group, its_id, after, chosen_on}
 use Rattle.calvin_world.proofs.Owed.{warm_word}
-use Rattle.calvin_world.proofs.Sequencers.{slot_at, AllP, first_least}
+use Rattle.calvin_order.proofs.NextEpochs.{first_least}
+use Rattle.calvin_world.proofs.Sequencers.{slot_at, AllP}
 use Rattle.calvin_world.proofs.Submits.{ValidNode, Valid, IsFit, stays_valid, handles_valid, acts_valid}
 use Rattle.calvin_world.proofs.EveryEvent.{Both, is_there, step_both, leads_both, at_first, is_opening}
 

@@ -178,6 +178,7 @@ impl<A: App + Drop, L: Locks + Drop, S: Rows<A::Row> + Drop> World<A, L, S> {
 
     /// What is promised of this world, whatever happened in it: what `run` promises at its end, after `new` and after `step` too.
     pub fn promised(&self)
+        ensures settled { settled_world self.now ≡ self.now }
         ensures agrees { (w : WorldState A.Args A.Row A.Reply) × Agrees w × (self.now ≡ settled_world w) }
         ensures serial { IsSerial A.meaning self.now }
         ensures points { PointsAreSerial A.meaning self.now }

@@ -1,9 +1,12 @@
 -- What is promised of a world that is reached.
 use Rattle.std.proofs.Common.{subst}
 use Rattle.calvin_world.specs.RunningWorlds.{IsReached}
-use Rattle.calvin_world.proofs.InCode.{reached_agrees, reached_serial, reached_points, reached_alike}
+use Rattle.calvin_world.proofs.InCode.{steady, reached_agrees, reached_serial, reached_points, reached_alike}
 use Rattle.calvin_world.proofs.SettledHistories.{ever_stays, code_submitted, code_before, code_in_time, code_later}
 use Rattle.calvin_world.proofs.world.World.promised.Goals as goal
+
+pub returns-clause-settled : goal.returns-clause-settled
+returns-clause-settled g c = steady _ c.args.self.now (subst (λ w. IsReached g.A.App.meaning w) c.self.view_is c.self.invariant.1)
 
 pub returns-clause-agrees : goal.returns-clause-agrees
 returns-clause-agrees g c = reached_agrees _ g.met.A.App.lawful.writes_within_the_sets c.args.self.now (subst (λ w. IsReached g.A.App.meaning w) c.self.view_is c.self.invariant.1)
