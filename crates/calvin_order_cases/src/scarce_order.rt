@@ -4,7 +4,7 @@
 use crate::checks::same;
 use crate::merge::txn;
 use crate::scarce_types::batched;
-use calvin_order::{Merge, PendingRequests, Sequencer};
+use calvin_order::{Merge, Sequencer};
 use calvin_types::{Batch, Config, Fault, Key, KeySet, Place, Sets, Slot, Txn};
 use std::alloc::Global;
 use std::process::Abort;
@@ -240,38 +240,15 @@ fn check_requests(rt: &impl Abort, epoch: u64, requests: &[(Place, Txn<u32>)]) {
     same(rt, n, 4);
 }
 
-/// The requests of the next epoch are told in segments, if not at once then with memory, and wait in their order.
-fn read(
-    rt: &impl Abort,
-    one: &Merge<u32>,
-    pending: &mut PendingRequests<u32>,
-    epoch: u64,
-) -> Result<u32, Fault> {
-    let (segments, mut refused) = match one.next_segments() {
+/// The requests of the next epoch are told, a segment for each group, if not at once then with memory.
+fn read(rt: &impl Abort, one: &Merge<u32>) -> Result<u32, Fault> {
+    let (segments, refused) = match one.next_segments() {
         Err(Fault::OutOfMemory) => (one.next_segments()?, 1),
         made => (made?, 0),
     };
     same(rt, segments.len(), 2);
-    if pending.reserve(2) == Err(Fault::OutOfMemory) {
-        same(rt, pending.reserve(2), Ok(()));
-        refused = 1;
-    }
-    pending.append(segments);
-    check_pending(rt, epoch, pending);
+    drop(segments);
     Ok(refused)
-}
-
-/// The requests of both groups wait, and no others. They are taken out.
-fn check_pending(rt: &impl Abort, epoch: u64, pending: &mut PendingRequests<u32>) {
-    for n in 0..4 {
-        let first = pending
-            .first()
-            .map(|(place, request)| (place, request.id.number));
-        let number = [1, 2, 1, 2][n as usize % 4];
-        same(rt, first, Some((Place { epoch, n }, number)));
-        pending.remove_first();
-    }
-    same(rt, pending.first().is_none(), true);
 }
 
 /// The next epoch is taken, if not at once then with memory.
@@ -298,7 +275,6 @@ fn merge_epochs(
     rt: &impl Abort,
     one: &mut Merge<u32>,
     other: &mut Merge<u32>,
-    pending: &mut PendingRequests<u32>,
     batch: &Batch<u32>,
 ) -> Result<u32, Fault> {
     let mut refused: u32 = 0;
@@ -308,7 +284,7 @@ fn merge_epochs(
             let more = hold_both(rt, one, other, slot, batch)?;
             refused = refused.saturating_add(more);
         }
-        refused = refused.saturating_add(read(rt, one, pending, epoch)?);
+        refused = refused.saturating_add(read(rt, one)?);
         if epoch > 1 {
             refused = refused.saturating_add(make_room(rt, one, other));
         }
@@ -325,9 +301,7 @@ fn merges_endured(rt: &impl Abort, alloc: Global) -> Result<u32, Fault> {
     let (batch, at_batch) = batched(alloc, &[1, 2])?;
     let mut one = Merge::new(alloc, &config);
     let mut other = Merge::new(alloc, &config);
-    let mut pending = PendingRequests::new(alloc);
-    let merged = merge_epochs(rt, &mut one, &mut other, &mut pending, &batch);
-    drop(pending);
+    let merged = merge_epochs(rt, &mut one, &mut other, &batch);
     drop(other);
     drop(one);
     drop(batch);
