@@ -94,7 +94,8 @@ class Kit:
             if self.left() <= wanted:
                 raise Spent
             how = {"cwd": where, "stdin": subprocess.DEVNULL, "stdout": said, "stderr": subprocess.STDOUT}
-            started = subprocess.Popen(words, **how)
+            # (it leads a group of its own, so that what it starts can be ended with it)
+            started = subprocess.Popen(words, **how, start_new_session=True)
             with self.lanes.turn:
                 self.running.add(started.pid)
             _, status, used = os.wait4(started.pid, 0)
