@@ -16,4 +16,6 @@ mod rows_seen;
 #[cfg(test)]
 mod scarce_locks;
 #[cfg(test)]
+mod scarce_rows;
+#[cfg(test)]
 mod scarce_runs;

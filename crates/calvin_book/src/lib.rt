@@ -17,4 +17,4 @@ pub use laws::{
 };
 pub use moving::{locked, moved};
 pub use receipt::{Answered, Look, Submission};
-pub use replies::reply_in;
+pub use replies::reply_at;

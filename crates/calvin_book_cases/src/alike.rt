@@ -1,15 +1,13 @@
 //! Books side by side.
 use crate::books::KvBook;
-use calvin_app::{Kv, KvReply, KvRequest};
+use calvin_app::Kv;
 use calvin_lock::QueueLocks;
 use calvin_node::Node;
-use calvin_node_packets::Packet;
+use calvin_node_packets::Outbox;
 use calvin_store::{ColdRows, Rows};
 use calvin_types::{Key, Slot};
 
 type KvNode = Node<Kv, QueueLocks, ColdRows<u64>>;
-
-type KvPacket = Packet<KvRequest, u64, KvReply>;
 
 /// The keys, epochs and groups of the lives.
 const KEYS: [u64; 2] = [1, 2];
@@ -53,9 +51,12 @@ fn tell_same(one: &KvNode, other: &KvNode) -> bool {
         && have_same_rows(one, other)
 }
 
-/// Whether two packets go the same way.
-fn go_same_way(one: &KvPacket, other: &KvPacket) -> bool {
-    one.from == other.from && one.to == other.to
+/// Whether the packets of a number, which is there in both, go the same way.
+fn go_same_way(some: &Outbox<Kv>, others: &Outbox<Kv>, number: usize) -> bool {
+    number < some.len()
+        && number < others.len()
+        && some.sender(number) == others.sender(number)
+        && some.address(number) == others.address(number)
 }
 
 /// Whether two books have the same events, as many packets that go the same ways, and nodes that tell the same of themselves.
@@ -64,11 +65,11 @@ pub(crate) fn is_alike(one: &KvBook, other: &KvBook) -> bool {
     (0..one.events().len()).all(|number| one.events().get(number) == other.events().get(number))
         && one.events().len() == other.events().len()
         && world.packets().len() == beside.packets().len()
-        && world
-            .packets()
-            .iter()
-            .zip(beside.packets().iter())
-            .all(|(one, other)| go_same_way(one, other))
+        && (0..world.packets().len()).all(|number| go_same_way(
+            world.packets(),
+            beside.packets(),
+            number,
+        ))
         && world
             .nodes()
             .iter()

@@ -44,12 +44,10 @@ fn has_double(numbers: &[usize], size: usize) -> bool {
 
 /// Whether a packet for a node has a number at the last place of a group of so many.
 fn has_lost(book: &StoreBook<Kv>, size: usize) -> bool {
-    for (number, packet) in book.world().packets().iter().enumerate() {
-        if matches!(packet.to, Address::AtNode(_)) && is_last_of(size, number) {
-            return true;
-        }
-    }
-    false
+    let packets = book.world().packets();
+    (0..packets.len()).any(|number| {
+        matches!(packets.address(number), Some(Address::AtNode(_))) && is_last_of(size, number)
+    })
 }
 
 /// How often nodes of replica 0 restarted, and how often those of all others.

@@ -162,10 +162,10 @@ impl<A: App + Drop, L: Locks + Drop, S: Rows<A::Row> + Drop, J: Founding> Office
     }
 
     fn is_for_a_node(&self, number: usize) -> bool {
-        match self.world().packets().get(number) {
-            Some(packet) => matches!(packet.to, Address::AtNode(_)),
-            None => false,
-        }
+        matches!(
+            self.world().packets().address(number),
+            Some(Address::AtNode(_))
+        )
     }
 
     /// An errand is done, or was lost.

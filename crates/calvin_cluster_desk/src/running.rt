@@ -4,7 +4,7 @@ use crate::receipt::Founding;
 use calvin_app::App;
 use calvin_lock::Locks;
 use calvin_node::Act;
-use calvin_node_packets::{Address, Content, Packet};
+use calvin_node_packets::{Address, Outbox, Sent};
 use calvin_store::Rows;
 use calvin_synod::Message;
 use calvin_types::{Fault, NodeId, Place};
@@ -26,22 +26,18 @@ enum Brings {
     Packets,
 }
 
-fn what_comes_of<Args: Copy, Row: Copy, Reply: Copy>(
-    content: &Content<Args, Row, Reply>,
-) -> Brings {
-    match content {
-        Content::Reads(place, _) => Brings::Rows(*place),
-        Content::Synod(Message::Accepted { .. }) | Content::Decided(..) => Brings::Batch,
+fn what_comes_of<A: App>(sent: &Sent<'_, A::Args, A::Row, A::Reply>) -> Brings {
+    match sent {
+        Sent::Reads(place, _) => Brings::Rows(*place),
+        Sent::Synod(Message::Accepted { .. }) | Sent::Decided(..) => Brings::Batch,
         _ => Brings::Packets,
     }
 }
 
 /// The node that a packet is for, and what it may bring about there.
-fn aim<Args: Copy, Row: Copy, Reply: Copy>(
-    packet: &Packet<Args, Row, Reply>,
-) -> Option<(NodeId, Brings)> {
-    match packet.to {
-        Address::AtNode(id) => Some((id, what_comes_of(&packet.content))),
+fn aim<A: App>(packets: &Outbox<A>, number: usize) -> Option<(NodeId, Brings)> {
+    match packets.address(number)? {
+        Address::AtNode(id) => Some((id, what_comes_of::<A>(&packets.sent(number)?))),
         Address::AtClient(_) => None,
     }
 }
@@ -50,10 +46,7 @@ impl<A: App + Drop, L: Locks + Drop, S: Rows<A::Row> + Drop, J: Founding> Office
     /// A packet is delivered, and its node does what it can then. One with rows for a request that hasn't asked for its locks yet
     /// waits until its epoch is merged.
     pub(crate) fn deliver(&mut self, number: usize) {
-        let Some(packet) = self.world().packets().get(number) else {
-            return;
-        };
-        let Some((id, brings)) = aim(packet) else {
+        let Some((id, brings)) = aim(self.world().packets(), number) else {
             return;
         };
         let done = self.desk.record(&Event::Deliver(number));

@@ -1,12 +1,13 @@
 -- Which event an entry is, and that it is no other one.
 --     is_own      an own event of a node
 --     Delivered, delivered      an event in which a packet came is the delivery of the one with its name
---     read_at, past_all      the packet of a number, and a number past all
+--     read_at, no_address      the packet of a number, and a number of none
 --     none_named, other_address, other_packet      where there is none
 --     is_delivery      where there is one
 --     counts, at_from, from_at      the names of packets, by who sent them
 use Rattle.std.proofs.Common.{◌≡◌, ◌<◌, ◌≤◌, ℕ, zero, suc, Bool, true, false, cond, List, [], ◌∷◌, length, take, Option, Some, None, MatchOption, refl, sym, ap, subst, ◌∙◌, arith}
 use Rattle.std.specs.List.{filter}
+use Rattle.std.specs.Option.{option_map}
 use Rattle.std.specs.Prelude.{slice_get}
 use Rattle.std.proofs.lemmas.Bool.{false≢true}
 use lib.ListN.{get_or}
@@ -99,8 +100,11 @@ module _ {Args Row Reply : Type 0} where
     pub none_named : ((number : ℕ) → IsNamed w.packets name number → ⊥) → (event : Event Args) → entry_of w event ≡ Some (id, Came name p) → ⊥
     none_named never event e = let d = delivered w id name p event e in never d.number (p, d.there, d.named)
 
-    pub past_all : (seen : List (Packet Args Row Reply)) → seen ≡ w.packets → (number : ℕ) → IsNamed w.packets name number → length seen ≤ number → ⊥
-    past_all seen same number named past = let within = slice_get_within w.packets number named.0 named.1 in let long = ap length same in omega (arith, within, long, past)
+    pub no_address : (seen : List (Packet Args Row Reply)) → seen ≡ w.packets → (number : ℕ) → IsNamed w.packets name number → None ≡ option_map (λ p. p.to) (slice_get seen number) → ⊥
+    no_address seen same number named none =
+        let there = ap (λ (ps : List (Packet Args Row Reply)). slice_get ps number) same ∙ named.1 in
+        let to = ap (option_map (λ (p : Packet Args Row Reply). p.to)) there in
+        none-some named.0.to (none ∙ to)
 
     module _ (number : ℕ) (named : IsNamed w.packets name number) (sent : Packet Args Row Reply) (there : slice_get w.packets number ≡ Some sent) where
       -- it is the one that is sent under the name

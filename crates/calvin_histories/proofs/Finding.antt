@@ -3,9 +3,10 @@
 --     none_listed      lists of no packets
 --     listed_here, listed_nowhere      one packet more, of a node with a list, and of one without
 --     find      what is found, and that nothing is where nothing is found
---     take_more      the senders of the packets up to the next one
+--     take_more, take_sender      the senders of the packets up to the next one
 use Rattle.std.proofs.Common.{◌≡◌, ◌≢◌, ◌⊎◌, ℕ, zero, suc, ◌+◌, ◌*◌, ◌<◌, Bool, true, false, cond, List, [], ◌∷◌, ◌++◌, length, take, Option, Some, None, MatchOption, Result, Ok, Err, ◌≤◌, inl, inr, refl, sym, ap, subst, ◌∙◌, arith}
 use Rattle.std.specs.Prelude.{OnOk, slice_get, slice_set}
+use Rattle.std.specs.Option.{option_map}
 use Rattle.std.proofs.lemmas.Bool.{cases_eq, cases_lt}
 use Rattle.std.proofs.lemmas.List.{append-nil, length-set}
 use Rattle.std.proofs.lemmas.Option.{none-some, slice_get_within}
@@ -18,6 +19,7 @@ use Rattle.calvin_world.specs.declared.naming.PacketName.{PacketName}
 use Rattle.calvin_node_packets.specs.declared.packet.Packet.{Packet}
 use Rattle.calvin_histories.specs.Positions.{senders_of, positions, AreListed, IsListed, IsAt}
 use Rattle.calvin_world.specs.Worlds.{index_of}
+use Rattle.calvin_world.proofs.Named.{packet_from}
 use Rattle.calvin_histories.specs.Histories.{id_of}
 use Rattle.calvin_histories.proofs.Sent.{same_node_self, same_node_is}
 use Rattle.calvin_histories.proofs.Positions.{positions_more, found, is_found}
@@ -115,3 +117,6 @@ module _ {Args Row Reply : Type 0} where
       next [] n there = absurd (none-some p there)
       next (q ∷ packets) zero there = let same : q ≡ p = cc in ap (λ (p : Packet Args Row Reply). p.from ∷ []) same
       next (q ∷ packets) (suc n) there = ap (λ ids. q.from ∷ ids) (next packets n there)
+
+  pub take_sender : (packets : List (Packet Args Row Reply)) (n : ℕ) (id : NodeId) → option_map (λ p. p.from) (slice_get packets n) ≡ Some id → take (n + 1) (senders_of packets) ≡ take n (senders_of packets) ++ id ∷ []
+  take_sender packets n id is = let sent = packet_from packets n id is in take_more packets n sent.0 sent.1 ∙ ap (λ (from : NodeId). take n (senders_of packets) ++ from ∷ []) sent.2

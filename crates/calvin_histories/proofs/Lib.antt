@@ -10,4 +10,5 @@ pub mod Assembling
 pub mod Locking
 pub mod Whole
 pub mod Naming
+pub mod PacketAt
 pub mod Replaying

@@ -2,13 +2,18 @@
 --     is_listed      a node of the store has a list
 --     next_of      the name of the packet that it sends next
 --     named_more, named_all      the name of one packet more; in the end of all
---     for_client, for_node      what the packet of a number is, which comes under its name
-use Rattle.std.proofs.Common.{◌≡◌, ◌⊎◌, ℕ, ◌+◌, ◌*◌, ◌<◌, ◌≤◌, List, [], ◌∷◌, ◌++◌, length, take, Option, Some, None, inl, inr, sym, ap, ◌∙◌, arith}
+--     nameless      where no name is, no packet is
+--     for_nobody, for_client      where an outbox tells of no packet for a node, none comes to one
+--     address_is      whom the packet of a number is for
+--     for_node      what the packet of a number is, which comes under its name
+use Rattle.std.proofs.Common.{◌≡◌, ◌⊎◌, ℕ, ◌+◌, ◌*◌, ◌<◌, ◌≤◌, List, [], ◌∷◌, ◌++◌, length, take, Option, Some, None, inl, inr, refl, sym, ap, ◌∙◌, arith}
 use Rattle.std.specs.Prelude.{slice_get}
 use Rattle.std.proofs.lemmas.Bool.{cases_lt}
-use Rattle.std.proofs.lemmas.Option.{slice_get_within}
+use Rattle.std.specs.Option.{option_map}
+use Rattle.std.proofs.lemmas.Option.{none-some, slice_get_within, same_Some}
 use Rattle.calvin_types.specs.declared.place.NodeId.{NodeId}
 use Rattle.calvin_bench.proofs.Lists.{get_left, last_of}
+use Rattle.calvin_node_packets.specs.declared.packet.Address.{Address}
 use Rattle.calvin_node_packets.specs.declared.packet.Address.TheVariants.{AtNode, AtClient}
 use Rattle.calvin_node_packets.specs.declared.packet.Packet.{Packet}
 use Rattle.calvin_world.specs.declared.naming.PacketName.{PacketName}
@@ -57,10 +62,28 @@ module _ {Args Row Reply : Type 0} (packets : List (Packet Args Row Reply)) wher
   pub named_all : (names : List PacketName) (n : ℕ) → length packets ≤ n → AreNamedTo names n → AreNamed packets names
   named_all names n past named number p there = named number p (let within = slice_get_within packets number p there in omega (arith, within, past)) there
 
-  module _ (n : ℕ) (p : Packet Args Row Reply) (there : slice_get packets n ≡ Some p) where
-    pub for_client : (client : ℕ) → p.to ≡ AtClient client → ◌≡◌ {A = Option (NodeId × Entry Args Row Reply)} None (coming packets n (slice_get packets n))
-    for_client client to = sym ((λ i. coming packets n (there i)) ∙ (λ i. came_to (name_of packets n p) p (to i)))
+  -- where no name is, no packet is
+  pub nameless : (names : List PacketName) → AreNamed packets names → (n : ℕ) → length names ≤ n → ◌≡◌ {A = Option (NodeId × Entry Args Row Reply)} None (coming packets n (slice_get packets n))
+  nameless names named n past = go (slice_get packets n) refl
+    where
+      go : (o : Option (Packet Args Row Reply)) → slice_get packets n ≡ o → ◌≡◌ {A = Option (NodeId × Entry Args Row Reply)} None (coming packets n o)
+      go None is = refl
+      go (Some p) is = absurd (let within = slice_get_within names n (name_of packets n p) (named n p is) in omega (arith, within, past))
 
+  -- where an outbox tells of no packet, or of one for a client, nothing comes to a node
+  pub for_nobody : (n : ℕ) (o : Option (Packet Args Row Reply)) → None ≡ option_map (λ p. p.to) o → ◌≡◌ {A = Option (NodeId × Entry Args Row Reply)} None (coming packets n o)
+  for_nobody n None is = refl
+  for_nobody n (Some p) is = absurd (none-some p.to is)
+
+  pub for_client : (n : ℕ) (o : Option (Packet Args Row Reply)) (client : ℕ) → Some (AtClient client) ≡ option_map (λ p. p.to) o → ◌≡◌ {A = Option (NodeId × Entry Args Row Reply)} None (coming packets n o)
+  for_client n None client is = refl
+  for_client n (Some p) client is = ap (came_to (name_of packets n p) p) (same_Some (AtClient client) p.to is)
+
+  -- whom the packet of a number is for, as an outbox tells it
+  pub address_is : (o : Option (Packet Args Row Reply)) (p : Packet Args Row Reply) → o ≡ Some p → (to : Address) → Some to ≡ option_map (λ q. q.to) o → p.to ≡ to
+  address_is o p there to is = sym (same_Some to p.to (is ∙ ap (option_map (λ (q : Packet Args Row Reply). q.to)) there))
+
+  module _ (n : ℕ) (p : Packet Args Row Reply) (there : slice_get packets n ≡ Some p) where
     pub for_node : (names : List PacketName) → AreNamed packets names → (name : PacketName) → slice_get names n ≡ Some name → (id : NodeId) → p.to ≡ AtNode id → (copy : Packet Args Row Reply) → copy ≡ p
         → ◌≡◌ {A = Option (NodeId × Entry Args Row Reply)} (Some (id, Came name copy)) (coming packets n (slice_get packets n))
     for_node names named name at id to copy same =

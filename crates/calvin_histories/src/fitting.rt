@@ -7,7 +7,7 @@ ghost use Rattle.calvin_histories.specs.Positions.{AreListed, senders_of};
 ghost use Rattle.calvin_histories.specs.declared.entry.Entry.TheVariants.{Came};
 
 use crate::entry::Entry;
-use crate::same::is_same_packet;
+use crate::same::is_packet_at;
 use crate::senders::Senders;
 use calvin_app::App;
 use calvin_lock::Locks;
@@ -51,13 +51,13 @@ fn delivery_of<A: App + Drop, L: Locks + Drop, S: Rows<A::Row> + Drop>(
         return None;
     };
     let packets = world.packets();
-    let Some(sent) = packets.get(number) else {
+    let Some(to) = packets.address(number) else {
         return None;
     };
-    if !sent.to.is_for(id) {
+    if !to.is_for(id) {
         return None;
     }
-    if !is_same_packet::<A>(sent, packet) {
+    if !is_packet_at(packets, number, packet) {
         return None;
     }
     Some(Event::Deliver(number))

@@ -93,10 +93,10 @@ impl<A: App + Drop, L: Locks + Drop, S: Rows<A::Row> + Drop> LockedNode<A, L, S>
     }
 
     /// What it has sent, in order: the number of each is the one in its name.
-    pub fn sent(&self) -> &[Packet<A::Args, A::Row, A::Reply>]
-        ensures { (state : NodeState A.Args A.Row) × IsLife A.meaning self.now state result.now }
+    pub fn sent(&self) -> &Outbox<A>
+        ensures { (state : NodeState A.Args A.Row) × IsLife A.meaning self.now state result.now.packets }
     {
-        self.sent.packets()
+        &self.sent
     }
 
     /// One of the node's own events happens. Refused as `Node::act` is, or with `OutOfMemory` where there was no room for it in the

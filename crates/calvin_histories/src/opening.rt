@@ -12,7 +12,7 @@ use crate::senders::Senders;
 use calvin_app::App;
 use calvin_book::Book;
 use calvin_lock::Locks;
-use calvin_node_packets::{Address, Packet};
+use calvin_node_packets::{Address, Outbox};
 use calvin_store::Rows;
 use calvin_types::{Config, Fault, NodeId};
 use calvin_world::{Event, PacketName, World, id_at};
@@ -56,19 +56,19 @@ fn new_nodes<A: App + Drop, L: Locks + Drop, S: Rows<A::Row> + Drop>(
 }
 
 /// The name of each packet, by its number among all. Refused with `OutOfMemory` alone.
-fn names_of<Args, Row, Reply>(
+fn names_of<A: App>(
     alloc: Global,
     config: &Config,
-    packets: &[Packet<Args, Row, Reply>],
+    packets: &Outbox<A>,
 ) -> Result<Vec<PacketName>, Fault>
-    requires there { AreThere config.now.replicas config.now.partitions packets.now }
-    ensures names { IfOk result (λ names. AreNamed packets.now names.items) }
+    requires there { AreThere config.now.replicas config.now.partitions packets.now.packets }
+    ensures names { IfOk result (λ names. AreNamed packets.now.packets names.items) }
     ensures only { IsOkUnless result Fault.OutOfMemory }
 {
     let mut senders = Senders::new(alloc, config)?;
     let mut names = Vec::new(alloc);
     for number in 0..packets.len() {
-        let sender = packets[number].from;
+        let sender = packets.sender(number);
         names.push(senders.next_name(sender))?;
         senders.note(sender, number)?;
     }
@@ -118,40 +118,28 @@ fn entry_at<A: App + Drop, L: Locks + Drop, S: Rows<A::Row> + Drop>(
 /// The node to which the packet of a number comes, and the packet with its name, if it is for a node. Refused with `OutOfMemory`
 /// alone.
 fn came_at<A: App>(
-    packets: &[Packet<A::Args, A::Row, A::Reply>],
+    packets: &Outbox<A>,
     names: &[PacketName],
     number: usize,
 ) -> Result<Option<(NodeId, Entry<A::Args, A::Row, A::Reply>)>, Fault>
-    requires names { AreNamed packets.now names.now }
-    ensures entry { IfOk result (λ entry. entry ≡ coming packets.now number (slice_get packets.now number)) }
+    requires names { AreNamed packets.now.packets names.now }
+    ensures entry { IfOk result (λ entry. entry ≡ coming packets.now.packets number (slice_get packets.now.packets number)) }
     ensures only { IsOkUnless result Fault.OutOfMemory }
 {
-    let Some(packet) = packets.get(number) else {
-        return Ok(None);
-    };
     let Some(name) = names.get(number) else {
         return Ok(None);
     };
-    let Address::AtNode(id) = packet.to else {
+    let Some(to) = packets.address(number) else {
         return Ok(None);
     };
-    let packet = copy_of::<A>(packet)?;
+    let Address::AtNode(id) = to else {
+        return Ok(None);
+    };
+    let copy = packets.copy(number)?;
+    let Some(packet) = copy else {
+        return Ok(None);
+    };
     Ok(Some((id, Entry::Came(*name, packet))))
-}
-
-/// A packet once more. Refused with `OutOfMemory` alone.
-fn copy_of<A: App>(
-    packet: &Packet<A::Args, A::Row, A::Reply>,
-) -> Result<Packet<A::Args, A::Row, A::Reply>, Fault>
-    ensures ok { IfOk result (λ copy. copy ≡ packet.now) }
-    ensures only { IsOkUnless result Fault.OutOfMemory }
-{
-    let content = packet.content.copy()?;
-    Ok(Packet {
-        from: packet.from,
-        to: packet.to,
-        content,
-    })
 }
 
 /// An entry comes next at a node. Refused as its event is, or with `OutOfMemory`.

@@ -1,28 +1,36 @@
 //! Whether two packets are the same.
-ghost use Rattle.std.specs.Prelude.{◌≡◌, MatchBool};
+ghost use Rattle.std.specs.Prelude.{◌≡◌, MatchBool, Some, slice_get};
+ghost use Rattle.calvin_node_packets.specs.Sendings.{content_of};
 ghost use Rattle.calvin_node_packets.specs.declared.packet.Content.TheVariants.{Synod, Decided, AskBatch, Reads, AskReads, Warm, Replies};
 
 use crate::same_message::{is_same_batch, is_same_message};
 use crate::same_values::{is_same_answer, is_same_sets, is_same_view};
 use calvin_app::{Answer, App, View};
-use calvin_node_packets::{Address, Content, Packet};
+use calvin_node_packets::{Address, Content, Outbox, Packet, Sent};
 use calvin_synod::Message;
 use calvin_types::{Batch, Place, RequestId, Sets, Slot};
 
-/// Whether two packets are of one sender, for one receiver, and say the same.
-pub(crate) fn is_same_packet<A: App>(
-    one: &Packet<A::Args, A::Row, A::Reply>,
-    other: &Packet<A::Args, A::Row, A::Reply>,
+/// Whether the packet of a number is this one: it is from the same sender, for the same receiver, and says the same.
+pub(crate) fn is_packet_at<A: App>(
+    packets: &Outbox<A>,
+    number: usize,
+    packet: &Packet<A::Args, A::Row, A::Reply>,
 ) -> bool
-    ensures { MatchBool result (one.now ≡ other.now) (one.now ≡ other.now → ⊥) }
+    ensures { MatchBool result (slice_get packets.now.packets number ≡ Some packet.now) (slice_get packets.now.packets number ≡ Some packet.now → ⊥) }
 {
-    if one.from != other.from {
+    let Some(to) = packets.address(number) else {
+        return false;
+    };
+    if packets.sender(number) != packet.from {
         return false;
     }
-    if !is_same_address(one.to, other.to) {
+    if !is_same_address(to, packet.to) {
         return false;
     }
-    is_same_content::<A>(&one.content, &other.content)
+    let Some(sent) = packets.sent(number) else {
+        return false;
+    };
+    is_same_content::<A>(&sent, &packet.content)
 }
 
 /// Whether two addresses are of one receiver.
@@ -43,19 +51,19 @@ fn is_same_address(one: Address, other: Address) -> bool
 
 /// Whether two packets say the same.
 fn is_same_content<A: App>(
-    one: &Content<A::Args, A::Row, A::Reply>,
+    sent: &Sent<'_, A::Args, A::Row, A::Reply>,
     other: &Content<A::Args, A::Row, A::Reply>,
 ) -> bool
-    ensures { MatchBool result (one.now ≡ other.now) (one.now ≡ other.now → ⊥) }
+    ensures { MatchBool result (content_of sent.now ≡ other.now) (content_of sent.now ≡ other.now → ⊥) }
 {
-    match one {
-        Content::Synod(message) => is_synod::<A>(other, message),
-        Content::Decided(slot, batch) => is_decided::<A>(other, *slot, batch),
-        Content::AskBatch(slot) => is_ask_batch::<A>(other, *slot),
-        Content::Reads(place, rows) => is_reads::<A>(other, *place, rows),
-        Content::AskReads(place) => is_ask_reads::<A>(other, *place),
-        Content::Warm(sets) => is_warm::<A>(other, sets),
-        Content::Replies(place, id, attempt, answer) => {
+    match sent {
+        Sent::Synod(message) => is_synod::<A>(other, message),
+        Sent::Decided(slot, batch) => is_decided::<A>(other, *slot, batch),
+        Sent::AskBatch(slot) => is_ask_batch::<A>(other, *slot),
+        Sent::Reads(place, rows) => is_reads::<A>(other, *place, rows),
+        Sent::AskReads(place) => is_ask_reads::<A>(other, *place),
+        Sent::Warm(sets) => is_warm::<A>(other, sets),
+        Sent::Replies(place, id, attempt, answer) => {
             is_reply::<A>(other, *place, *id, *attempt, answer)
         }
     }

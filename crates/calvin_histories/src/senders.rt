@@ -4,7 +4,8 @@ ghost use Rattle.calvin_types.specs.declared.place.NodeId.{NodeId};
 ghost use Rattle.calvin_world.specs.Worlds.{index_of};
 ghost use Rattle.calvin_histories.specs.Positions.{AreListed, IsListed, IsAt, senders_of, next_name};
 
-use calvin_node_packets::Packet;
+use calvin_app::App;
+use calvin_node_packets::Outbox;
 use calvin_types::{Config, Fault, NodeId};
 use calvin_world::PacketName;
 use std::alloc::Global;
@@ -116,16 +117,13 @@ impl Senders {
     }
 
     /// Lists the packets that aren't, among all that were sent. Refused with `OutOfMemory` alone.
-    pub fn note_all<Args, Row, Reply>(
-        &mut self,
-        packets: &[Packet<Args, Row, Reply>],
-    ) -> Result<(), Fault>
-        ensures listed { OnOk result (AreListed self.old.partitions self.old.lists.items (take self.old.listed (senders_of packets.now))
-            → (self.new.listed ≡ length packets.now) × AreListed self.new.partitions self.new.lists.items (senders_of packets.now)) }
+    pub fn note_all<A: App>(&mut self, packets: &Outbox<A>) -> Result<(), Fault>
+        ensures listed { OnOk result (AreListed self.old.partitions self.old.lists.items (take self.old.listed (senders_of packets.now.packets))
+            → (self.new.listed ≡ length packets.now.packets) × AreListed self.new.partitions self.new.lists.items (senders_of packets.now.packets)) }
         ensures only { IsOkUnless result Fault.OutOfMemory }
     {
         for number in self.listed..packets.len() {
-            self.note(packets[number].from, number)?;
+            self.note(packets.sender(number), number)?;
         }
         self.listed = packets.len();
         Ok(())

@@ -1,5 +1,7 @@
 //! How a node runs what is merged: each request is locked, begins, is run and finished.
-ghost use Rattle.std.specs.Prelude.{◌≡◌, []};
+ghost use Rattle.std.specs.Prelude.{◌≡◌, [], ◌∷◌, drop};
+ghost use Rattle.calvin_types.specs.Deeds.{Did};
+ghost use Rattle.calvin_types.specs.Participants.{has_local_key};
 ghost use Rattle.calvin_sched.specs.Keeping.{IsFirstReadyHere};
 ghost use Rattle.calvin_sched.specs.Standing.{stands_at};
 ghost use Rattle.calvin_sched.specs.Steps as steps;
@@ -14,8 +16,10 @@ use calvin_app::{App, Computed, Job};
 use calvin_lock::Locks;
 use calvin_node_acts::post_served;
 use calvin_node_packets::{Address, Content, Outbox, Packet};
+use calvin_order::{PendingRequests, is_woven};
+use calvin_sched::Scheduler;
 use calvin_store::Rows;
-use calvin_types::{Fault, MOST_KEYS, Place};
+use calvin_types::{Config, Fault, MOST_KEYS, Place, Txn};
 
 impl<A: App, L: Locks + Drop, S: Rows<A::Row> + Drop> Node<A, L, S> {
     /// The next merged request asks for its locks, or is passed over where it has no key here. Refused with `NothingToLock`
@@ -28,7 +32,13 @@ impl<A: App, L: Locks + Drop, S: Rows<A::Row> + Drop> Node<A, L, S> {
             return Err(Fault::NothingToLock);
         };
         self.scheduler.due_is_undone();
-        self.scheduler.admit(place, txn)?;
+        admit_first(
+            &mut self.scheduler,
+            &self.pending,
+            self.layer.config(),
+            place,
+            txn,
+        )?;
         self.pending.remove_first();
         Ok(())
     }
@@ -110,5 +120,28 @@ impl<A: App, L: Locks + Drop, S: Rows<A::Row> + Drop> Node<A, L, S> {
         ensures { S.store result.now ≡ self.now.state.scheduler.store }
     {
         self.scheduler.rows()
+    }
+}
+
+/// The first of the merged requests, which is at a place, is admitted. It stays in the memory of the batch in which it was
+/// agreed upon. It is copied where its epoch is woven, as it would keep all requests of the epoch there, which lie in memory of
+/// this node alone, and where the owners of a batch can't be counted. Refused as `Scheduler::admit` is.
+fn admit_first<A: App, L: Locks + Drop, S: Rows<A::Row> + Drop>(
+    scheduler: &mut Scheduler<A, L, S>,
+    pending: &PendingRequests<A::Args>,
+    config: &Config,
+    place: Place,
+    txn: &Txn<A::Args>,
+) -> Result<(), Fault>
+    requires { pending.now.requests ≡ (place, txn.now) ∷ drop 1 pending.now.requests }
+    ensures did { Did (has_local_key scheduler.old.here txn.now) result (steps.admit scheduler.old.here place txn.now scheduler.old.scheduling) scheduler.old.scheduling scheduler.new.scheduling }
+    ensures rest { scheduler.new ≡ record scheduler.old { scheduling = scheduler.new.scheduling } }
+{
+    if is_woven(config, place.epoch) {
+        return scheduler.admit(place, txn);
+    }
+    match pending.share_first() {
+        Ok(Some((_, shared))) => scheduler.admit_shared(place, shared),
+        _ => scheduler.admit(place, txn),
     }
 }

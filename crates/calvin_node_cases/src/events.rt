@@ -1,8 +1,7 @@
 //! Worlds of numbers by key, and what happens in them.
-use calvin_app::{Kv, KvReply, KvRequest};
+use calvin_app::{Kv, KvRequest};
 use calvin_lock::Locks;
 use calvin_node::Act;
-use calvin_node_packets::Packet;
 use calvin_store::PlainRows;
 use calvin_types::{Batch, Config, Fault, Key, KeySet, NodeId, Place, RequestId, Sets, Txn};
 use calvin_world::World;
@@ -12,9 +11,6 @@ use std::alloc::Global;
 pub(crate) type KvWorld<L> = World<Kv, L, PlainRows<u64>>;
 
 pub(crate) type KvAct = Act<KvRequest>;
-
-/// What is sent in such a world.
-pub(crate) type Sent = Packet<KvRequest, u64, KvReply>;
 
 /// No event has happened yet.
 pub(crate) fn world_of<L: Locks + Drop>(

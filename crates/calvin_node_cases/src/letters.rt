@@ -1,9 +1,9 @@
 //! The messages of a group's synods about epoch 0. There is one partition, so a node is named by its replica.
 use crate::checks::same;
-use crate::events::{KvWorld, Sent, node};
+use crate::events::{KvWorld, node};
 use calvin_app::KvRequest;
 use calvin_lock::Locks;
-use calvin_node_packets::{Address, Content};
+use calvin_node_packets::{Address, Sent};
 use calvin_synod::Message;
 use calvin_types::{Ballot, Batch, Slot};
 use std::process::Abort;
@@ -53,16 +53,23 @@ pub(crate) fn accepted(replica: u8, batch: Batch<KvRequest>) -> Letter {
     }
 }
 
-/// Whether a packet is this message, from one replica to another.
-fn is_letter(packet: Option<&Sent>, from: u8, to: u8, letter: &Letter) -> bool {
-    let Some(packet) = packet else {
-        return false;
-    };
-    let is_said = match &packet.content {
-        Content::Synod(said) => said == letter,
+/// Whether the packet of a number is this message, from one replica to another.
+fn is_letter<L: Locks + Drop>(
+    world: &KvWorld<L>,
+    number: usize,
+    from: u8,
+    to: u8,
+    letter: &Letter,
+) -> bool {
+    let packets = world.packets();
+    let is_said = match packets.sent(number) {
+        Some(Sent::Synod(said)) => said == letter,
         _ => false,
     };
-    is_said && packet.from == node(from, 0) && packet.to == Address::AtNode(node(to, 0))
+    is_said
+        && number < packets.len()
+        && packets.sender(number) == node(from, 0)
+        && packets.address(number) == Some(Address::AtNode(node(to, 0)))
 }
 
 /// The packet of this number is this message, from one replica to another.
@@ -74,7 +81,7 @@ pub(crate) fn check_letter<L: Locks + Drop>(
     to: u8,
     letter: Letter,
 ) {
-    let is_sent = is_letter(world.packets().get(number), from, to, &letter);
+    let is_sent = is_letter(world, number, from, to, &letter);
     same(rt, (number, is_sent), (number, true));
 }
 
@@ -88,7 +95,7 @@ pub(crate) fn check_letters<L: Locks + Drop>(
 ) {
     for to in 0..3 {
         let number = first.saturating_add(usize::from(to));
-        let is_sent = is_letter(world.packets().get(number), from, to, &letter);
+        let is_sent = is_letter(world, number, from, to, &letter);
         same(rt, (number, is_sent), (number, true));
     }
 }

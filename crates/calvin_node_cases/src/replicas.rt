@@ -1,10 +1,10 @@
 //! Two replicas of two partitions. Key 2 is stored in partition 0, key 1 in partition 1.
 use crate::checks::{act, check_stands, deliver, ends, number_of, same};
-use crate::events::{KvWorld, Sent, end, finish, first_of, key, node, request, world_of};
+use crate::events::{KvWorld, end, finish, first_of, key, node, request, world_of};
 use calvin_app::{Answer, KvReply, KvRequest};
 use calvin_lock::{ListLocks, Locks, QueueLocks};
 use calvin_node::Act;
-use calvin_node_packets::{Address, Content};
+use calvin_node_packets::Address;
 use calvin_types::{NodeId, Place, RequestId, Slot};
 use calvin_world::Event;
 use std::process::Abort;
@@ -119,24 +119,27 @@ fn run_late<L: Locks + Drop>(rt: &impl Abort, world: &mut KvWorld<L>, place: Pla
     ends(rt, finish(world, LATE, place), 0);
 }
 
-/// Whether a packet is the late node's reply to the move of this number in an epoch.
-fn is_reply(packet: &Sent, epoch: u64, number: u32) -> bool {
-    let Content::Replies(place, id, attempt, answer) = &packet.content else {
-        return false;
-    };
-    packet.from == LATE
-        && packet.to == Address::AtClient(7)
-        && *place == first_of(epoch)
-        && *id == RequestId { client: 7, number }
-        && *attempt == 1
-        && *answer == Answer::Reply(KvReply::Done)
+/// Whether the packet of a number, which is there, is the late node's reply to the move of this number in an epoch.
+fn is_reply<L: Locks + Drop>(world: &KvWorld<L>, at: usize, epoch: u64, number: u32) -> bool {
+    let packets = world.packets();
+    at < packets.len()
+        && packets.sender(at) == LATE
+        && packets.address(at) == Some(Address::AtClient(7))
+        && packets.reply(at) == Some((first_of(epoch), RequestId { client: 7, number }, 1))
+        && packets.answer(at) == Some(Answer::Reply(KvReply::Done))
 }
 
 /// How often the late node replied to a move with the packets from one number on and before another.
-fn times(packets: &[Sent], first: usize, last: usize, epoch: u64, number: u32) -> usize {
+fn times<L: Locks + Drop>(
+    world: &KvWorld<L>,
+    first: usize,
+    last: usize,
+    epoch: u64,
+    number: u32,
+) -> usize {
     let mut times: usize = 0;
-    for (i, packet) in packets.iter().enumerate() {
-        if first <= i && i < last && is_reply(packet, epoch, number) {
+    for i in 0..world.packets().len() {
+        if first <= i && i < last && is_reply(world, i, epoch, number) {
             times = times.saturating_add(1);
         }
     }
@@ -145,10 +148,9 @@ fn times(packets: &[Sent], first: usize, last: usize, epoch: u64, number: u32) -
 
 /// Each of the late node's replies was sent once before a packet, and once since.
 fn check_replies<L: Locks + Drop>(rt: &impl Abort, world: &KvWorld<L>, first: usize) {
-    let packets = world.packets();
     for (epoch, number) in [(1, 2), (2, 3)] {
-        let before = times(packets, 0, first, epoch, number);
-        let since = times(packets, first, packets.len(), epoch, number);
+        let before = times(world, 0, first, epoch, number);
+        let since = times(world, first, world.packets().len(), epoch, number);
         same(rt, (epoch, before, since), (epoch, 1, 1));
     }
 }
@@ -233,8 +235,8 @@ fn deliver_again<L: Locks + Drop>(
 ) {
     for done in 0..last {
         let number = last.saturating_sub(done).saturating_sub(1);
-        let packet = world.packets().get(number);
-        if packet.is_some_and(|packet| packet.to.is_for(to)) {
+        let address = world.packets().address(number);
+        if address.is_some_and(|address| address.is_for(to)) {
             let refusal = number_of(world.step(&Event::Deliver(number)));
             count(rt, number, refusal, refused);
         }

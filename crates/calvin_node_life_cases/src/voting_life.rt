@@ -4,8 +4,8 @@
 use crate::checks::{goes_on, holds, same};
 use calvin_app::KvRequest;
 use calvin_node::Act;
-use calvin_node_lives::{Life, Nodes, Sent, Step, request};
-use calvin_node_packets::Content;
+use calvin_node_lives::{Life, Nodes, Step, request};
+use calvin_node_packets::Sent;
 use calvin_synod::Message;
 use calvin_types::{Ballot, Config, Fault, Place, Slot};
 use std::alloc::Global;
@@ -56,10 +56,10 @@ fn check_refused(
     same(rt, (number, is_sent), (number, true));
 }
 
-/// The ballot of the vote that a packet reports, if it is a promise with one.
-fn voted(packet: &Sent) -> Option<Ballot> {
-    match &packet.content {
-        Content::Synod(
+/// The ballot of the vote that the packet of a number reports, if it is a promise with one.
+fn voted(nodes: &Nodes, number: usize) -> Option<Ballot> {
+    match nodes.packets().sent(number)? {
+        Sent::Synod(
             Message::Promise {
                 vote: Some(vote),
                 ..
@@ -208,7 +208,7 @@ fn come_back(life: &mut Life, rt: &impl Abort) {
         ]),
     );
     check_refused(rt, life.nodes(), 75, 2, at(1, 2), at(3, 2));
-    let told = life.nodes().packets().get(76).and_then(voted);
+    let told = voted(life.nodes(), 76);
     same(rt, told, Some(at(3, 2)));
     check_prepares(rt, life.nodes(), 77, THIRD, at(4, 2));
     goes_on(

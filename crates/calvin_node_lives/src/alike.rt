@@ -1,7 +1,8 @@
 //! Whether nodes and what they sent are alike.
 use crate::nodes::ScarceNode;
-use crate::shown::{Sent, is_same, key, place};
+use crate::shown::{is_same, key, place};
 use calvin_app::{Kv, is_same_job};
+use calvin_node_packets::Outbox;
 use calvin_store::Rows;
 use calvin_types::{Place, Slot};
 
@@ -14,12 +15,8 @@ const EPOCHS: u64 = 3;
 const GROUPS: u8 = 2;
 
 /// Whether two lists have the same packets.
-pub(crate) fn have_sent_same(some: &[Sent], others: &[Sent]) -> bool {
-    some.len() == others.len()
-        && some
-            .iter()
-            .zip(others.iter())
-            .all(|(one, other)| is_same(one, other))
+pub(crate) fn have_sent_same(some: &Outbox<Kv>, others: &Outbox<Kv>) -> bool {
+    some.len() == others.len() && (0..some.len()).all(|number| is_same(some, others, number))
 }
 
 /// Whether two nodes hold the same batches for an epoch.

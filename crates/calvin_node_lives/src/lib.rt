@@ -12,5 +12,5 @@ mod step;
 
 pub use life::{Life, Wrong};
 pub use nodes::Nodes;
-pub use shown::{Letter, Sent, key, place, request};
+pub use shown::{Letter, key, place, request};
 pub use step::{Step, number_of};

@@ -1,7 +1,7 @@
 //! Nodes side by side, and the list of all that they sent.
 use crate::alike::{have_sent_same, tell_same};
 use crate::scarce::ScarceRows;
-use crate::shown::{Letter, Sent, copied, is_letter, key};
+use crate::shown::{Letter, Packed, is_letter, key};
 use crate::step::Step;
 use calvin_app::{Kv, KvRequest};
 use calvin_lock::QueueLocks;
@@ -58,12 +58,12 @@ impl Nodes {
     pub fn end(self) {}
 
     /// All packets.
-    pub fn packets(&self) -> &[Sent] {
-        self.sent.packets()
+    pub fn packets(&self) -> &Outbox<Kv> {
+        &self.sent
     }
 
     /// Hands a packet to the node that it is for.
-    fn hand_over(&mut self, packet: &Sent) -> Result<(), Fault> {
+    fn hand_over(&mut self, packet: &Packed) -> Result<(), Fault> {
         for node in self.nodes.iter_mut() {
             if packet.to.is_for(node.id()) {
                 return node.handle(packet, &mut self.sent);
@@ -74,10 +74,9 @@ impl Nodes {
 
     /// Delivers the packet of a number.
     fn deliver(&mut self, number: usize) -> Result<(), Fault> {
-        let Some(packet) = self.sent.packets().get(number) else {
+        let Some(packet) = self.sent.copy(number)? else {
             return Err(Fault::NoPacket);
         };
-        let packet = copied(packet)?;
         let outcome = self.hand_over(&packet);
         drop(packet);
         outcome
@@ -127,8 +126,10 @@ impl Nodes {
     /// Copies all packets to an outbox, with memory for so many more.
     fn copy_packets(&self, sent: &mut Outbox<Kv>, room: usize) -> Result<(), Fault> {
         sent.reserve(self.packets().len().saturating_add(room))?;
-        for packet in self.packets() {
-            sent.push(copied(packet)?)?;
+        for number in 0..self.packets().len() {
+            if let Some(packet) = self.packets().copy(number)? {
+                sent.push(packet)?;
+            }
         }
         Ok(())
     }
@@ -199,10 +200,7 @@ impl Nodes {
 
     /// Whether the packet of a number is this message, from one replica to another, where there is one partition.
     pub fn has_told(&self, number: usize, from: u8, to: u8, letter: &Letter) -> bool {
-        match self.packets().get(number) {
-            Some(packet) => is_letter(packet, from, to, letter),
-            None => false,
-        }
+        is_letter(&self.sent, number, from, to, letter)
     }
 
     /// Whether a replica has sent this message to each of three, with the packets from a number on, where there is one

@@ -1,14 +1,14 @@
 //! Requests and packets, to be handed in and compared.
-use calvin_app::{KvReply, KvRequest};
-use calvin_node_packets::{Address, Content, Packet};
+use calvin_app::{Kv, KvReply, KvRequest};
+use calvin_node_packets::{Address, Outbox, Packet, Sent};
 use calvin_synod::Message;
-use calvin_types::{Batch, Fault, Key, KeySet, NodeId, Place, RequestId, Sets, Txn};
+use calvin_types::{Batch, Key, KeySet, NodeId, Place, RequestId, Sets, Txn};
 
 /// What nodes that run numbers by key send.
-pub type Sent = Packet<KvRequest, u64, KvReply>;
+pub(crate) type Packed = Packet<KvRequest, u64, KvReply>;
 
 /// What is said by such a packet.
-type Said = Content<KvRequest, u64, KvReply>;
+type Said<'a> = Sent<'a, KvRequest, u64, KvReply>;
 
 /// A message of such nodes' synods.
 pub type Letter = Message<Batch<KvRequest>>;
@@ -39,38 +39,35 @@ pub fn request(number: u32, args: KvRequest) -> Txn<KvRequest> {
     }
 }
 
-/// A copy of a packet, whose batch shares the memory.
-pub(crate) fn copied(packet: &Sent) -> Result<Sent, Fault> {
-    Ok(Packet {
-        from: packet.from,
-        to: packet.to,
-        content: packet.content.copy()?,
-    })
-}
-
 /// Whether two packets say the same.
 fn says_same(one: &Said, other: &Said) -> bool {
     match (one, other) {
-        (Content::Synod(one), Content::Synod(other)) => one == other,
-        (Content::Decided(one, batch), Content::Decided(other, other_batch)) => {
+        (Sent::Synod(one), Sent::Synod(other)) => one == other,
+        (Sent::Decided(one, batch), Sent::Decided(other, other_batch)) => {
             one == other && batch == other_batch
         }
-        (Content::AskBatch(one), Content::AskBatch(other)) => one == other,
-        (Content::Reads(one, rows), Content::Reads(other, other_rows)) => {
+        (Sent::AskBatch(one), Sent::AskBatch(other)) => one == other,
+        (Sent::Reads(one, rows), Sent::Reads(other, other_rows)) => {
             one == other && rows.is_same(other_rows)
         }
-        (Content::AskReads(one), Content::AskReads(other)) => one == other,
-        (Content::Warm(one), Content::Warm(other)) => one == other,
-        (Content::Replies(one, id, attempt, answer), Content::Replies(other, name, try_, told)) => {
+        (Sent::AskReads(one), Sent::AskReads(other)) => one == other,
+        (Sent::Warm(one), Sent::Warm(other)) => one == other,
+        (Sent::Replies(one, id, attempt, answer), Sent::Replies(other, name, try_, told)) => {
             one == other && id == name && attempt == try_ && answer == told
         }
         _ => false,
     }
 }
 
-/// Whether two packets are the same.
-pub(crate) fn is_same(one: &Sent, other: &Sent) -> bool {
-    one.from == other.from && one.to == other.to && says_same(&one.content, &other.content)
+/// Whether the packets of a number, which is there in both, are the same.
+pub(crate) fn is_same(some: &Outbox<Kv>, others: &Outbox<Kv>, number: usize) -> bool {
+    let are_said_same = match (some.sent(number), others.sent(number)) {
+        (Some(one), Some(other)) => says_same(&one, &other),
+        _ => false,
+    };
+    are_said_same
+        && some.sender(number) == others.sender(number)
+        && some.address(number) == others.address(number)
 }
 
 /// The node of a replica, where there is one partition.
@@ -81,11 +78,19 @@ fn node(replica: u8) -> NodeId {
     }
 }
 
-/// Whether a packet is this message, from one replica to another, where there is one partition.
-pub(crate) fn is_letter(packet: &Sent, from: u8, to: u8, letter: &Letter) -> bool {
-    let is_said = match &packet.content {
-        Content::Synod(said) => said == letter,
+/// Whether the packet of a number is this message, from one replica to another, where there is one partition.
+pub(crate) fn is_letter(
+    packets: &Outbox<Kv>,
+    number: usize,
+    from: u8,
+    to: u8,
+    letter: &Letter,
+) -> bool {
+    let is_said = match packets.sent(number) {
+        Some(Sent::Synod(said)) => said == letter,
         _ => false,
     };
-    is_said && packet.from == node(from) && packet.to == Address::AtNode(node(to))
+    is_said
+        && packets.sender(number) == node(from)
+        && packets.address(number) == Some(Address::AtNode(node(to)))
 }

@@ -1,3 +1,4 @@
 pub mod PacketSizes
-mod Sent
+mod Copies
 mod MemberSteps
+mod KeptPackets

@@ -4,7 +4,7 @@ use Prim.Native.Nat.{ℕ, ◌+◌, ◌^◌, ◌<◌, ◌≤◌, max}
 use mir.Syntax.{Ty}
 use prog.Memory.{align, size, up}
 use prog.Align.{up-ge}
-use Rattle.std.proofs.Common.{arith}
+use Rattle.std.proofs.Common.{◌≡◌, subst, arith}
 use Rattle.calvin_sched.proofs.Sizes.{up_near, txn_at, pair_at, slot_at, few_at, view_at, job_at, reply_at, txn_size, view_size, work_size, serving_size, much, align_most, serving_fits}
 
 -- a view or an answer, and at most 400 bytes
@@ -98,12 +98,26 @@ module _ (a s b t r u : ℕ) where
       (txn_size a s b t r u) (view_size a s b t r u) answer_size
       (first 1 _ (omega arith)) (two 1 _ one (two 4 _ four (two content_at 1 k one))) (first 8 _ (omega arith)) k view_some v (reply_some (max r 1)) w long (much a s b t r u) fits
 
+  -- what it says where it lies in an outbox, which holds no batch
+  abbrev pub sent_size : ℕ
+  sent_size = up content_at (max 16 (max 32 (max 24 (max (up (view_at a s b t r u) 24 + view_size a s b t r u) (max 24 (max 312 (max (up (reply_at a s b t r u) 33 + answer_size) 1)))))))
+
   -- what it says is a part of it
   pub content_fits : b ≤ 16 → r ≤ 16 → work_size a s b t r u < 2 ^ 63 → content_size < 2 ^ 63
   content_fits b16 r16 fits = let h = up-ge packet_at (up content_at 12 + content_size) in smaller (up content_at 12) content_size packet_size h (packet_fits b16 r16 fits)
     where
       smaller : (x y z : ℕ) → x + y ≤ z → z < 2 ^ 63 → y < 2 ^ 63
       smaller x y z h k = omega arith
+
+  -- and no less than where it lies in an outbox
+  pub sent_fits : b ≤ 16 → r ≤ 16 → work_size a s b t r u < 2 ^ 63 → sent_size < 2 ^ 63
+  sent_fits b16 r16 fits = as_much content_at (up (view_at a s b t r u) 24 + view_size a s b t r u) (up (reply_at a s b t r u) 33 + answer_size) (content_fits b16 r16 fits)
+    where
+      same : (x y : ℕ) → max 64 (max 32 (max 24 (max x (max 24 (max 312 (max y 1)))))) ≡ max 16 (max 32 (max 24 (max x (max 24 (max 312 (max y 1))))))
+      same x y = omega arith
+
+      as_much : (k x y : ℕ) → up k (max 64 (max 32 (max 24 (max x (max 24 (max 312 (max y 1))))))) < 2 ^ 63 → up k (max 16 (max 32 (max 24 (max x (max 24 (max 312 (max y 1))))))) < 2 ^ 63
+      as_much k x y h = subst (λ (e : ℕ). up k e < 2 ^ 63) (same x y) h
 
 -- the same of the types of arguments, rows and replies
 module _ (args row reply : Ty) (fits : work_size (align args) (size args) (align row) (size row) (align reply) (size reply) < 2 ^ 63) where
@@ -112,6 +126,9 @@ module _ (args row reply : Ty) (fits : work_size (align args) (size args) (align
 
   pub content_of : content_size (align args) (size args) (align row) (size row) (align reply) (size reply) < 2 ^ 63
   content_of = content_fits (align args) (size args) (align row) (size row) (align reply) (size reply) (align_most row) (align_most reply) fits
+
+  pub sent_of : sent_size (align args) (size args) (align row) (size row) (align reply) (size reply) < 2 ^ 63
+  sent_of = sent_fits (align args) (size args) (align row) (size row) (align reply) (size reply) (align_most row) (align_most reply) fits
 
   pub serving_of : serving_size (align args) (size args) (align row) (size row) (align reply) (size reply) < 2 ^ 63
   serving_of = serving_fits (align args) (size args) (align row) (size row) (align reply) (size reply) (align_most args) (align_most row) fits

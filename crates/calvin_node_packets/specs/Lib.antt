@@ -1,2 +1,4 @@
 pub mod Packets
 pub mod Letters
+pub mod Keeping
+pub mod Sendings

@@ -1,7 +1,8 @@
 -- Requests that follow one another in a merged order, and those that wait in several such parts.
-use Rattle.std.proofs.Common.{◌≡◌, ◌⊎◌, ℕ, zero, suc, ◌+◌, ◌<◌, ◌≤◌, inl, inr, List, [], ◌∷◌, ◌++◌, length, drop, map, refl, sym, ap, ◌∙◌, append_assoc, append-nil, length-append, arith}
+use Rattle.std.proofs.Common.{◌≡◌, ◌⊎◌, ℕ, zero, suc, ◌+◌, ◌<◌, ◌≤◌, inl, inr, List, [], ◌∷◌, ◌++◌, length, drop, map, Some, slice_get, refl, sym, ap, subst, ◌∙◌, append_assoc, append-nil, length-append, arith}
 use Rattle.std.proofs.lemmas.List.{drop-drop}
 use Rattle.calvin_types.specs.declared.place.Slot.{Slot}
+use Rattle.calvin_types.proofs.Fews.{drop_at}
 use Rattle.calvin_order.specs.Merged.{joined, numbered}
 use Rattle.calvin_order.specs.Walking.{flat}
 
@@ -21,6 +22,12 @@ module _ {T : Type 0} where
   some_left e n zero (t ∷ ts) less = omega arith
   some_left e n (suc g) [] less = absurd (omega (arith, less))
   some_left e n (suc g) (t ∷ ts) less = some_left e n g ts (omega (arith, less))
+
+  -- what is found behind those that were given is the first of what is left
+  pub first_left : (e n g : ℕ) (ts : List T) (t : T) → slice_get ts g ≡ Some t → numbered e n (drop g ts) ≡ (record { epoch = e; n = n }, t) ∷ drop 1 (numbered e n (drop g ts))
+  first_left e n g ts t found =
+      let P : List T → Type 0 = λ us. numbered e n us ≡ (record { epoch = e; n = n }, t) ∷ drop 1 (numbered e n us) in
+      subst P (sym (drop_at ts g t found)) refl
 
   next_number : (e n : ℕ) (ts : List T) → drop 1 (numbered e n ts) ≡ numbered e (n + 1) (drop 1 ts)
   next_number e n [] = refl

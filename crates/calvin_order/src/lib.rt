@@ -20,4 +20,4 @@ pub use pending::PendingRequests;
 pub use same::same_orders;
 pub use segment::MergedSegment;
 pub use sequencer::Sequencer;
-pub use walk::{BatchSource, EpochRequests, count_requests};
+pub use walk::{BatchSource, EpochRequests, count_requests, is_woven};

@@ -1,8 +1,9 @@
 //! The merged requests of a node that wait to be admitted.
-ghost use Rattle.std.specs.Prelude.{◌≡◌, ◌-◌, ◌<◌, ◌≤◌, ◌++◌, ◌∷◌, [], length, drop, IfErr, MatchOption, OnOk, OnErr};
+ghost use Rattle.std.specs.Prelude.{◌≡◌, ◌-◌, ◌<◌, ◌≤◌, ◌++◌, ◌∷◌, [], length, drop, IfErr, IfOk, IsOkUnless, MatchOption, OnOk, OnErr};
 ghost use Rattle.calvin_order.specs.Walking.{flat, placed};
 
 use crate::segment::MergedSegment;
+use calvin_shared_txn::SharedTxn;
 use calvin_types::{Fault, Place, Txn};
 use std::alloc::Global;
 use std::collections::VecDeque;
@@ -47,6 +48,19 @@ impl<Args: Copy> PendingRequests<Args> {
             Some(segment) => Some(segment.first()),
             None => None,
         }
+    }
+
+    /// The first request, at its place, in the memory in which it lies, which gets one more owner. It takes none, and is refused
+    /// with `OutOfMemory` only where there are 2^63 - 1 owners.
+    pub fn share_first(&self) -> Result<Option<(Place, SharedTxn<Args>)>, Fault>
+        ensures first { IfOk result (λ given. MatchOption given (self.now.requests ≡ []) (λ first. self.now.requests ≡ first ∷ drop 1 self.now.requests)) }
+        ensures only { IsOkUnless result Fault.OutOfMemory }
+    {
+        let Some(segment) = self.segments.front() else {
+            return Ok(None);
+        };
+        let first = segment.share_first()?;
+        Ok(Some(first))
     }
 
     /// Takes the first request out, if there is one.

@@ -1,9 +1,10 @@
 //! Requests that follow one another in the merged order.
-ghost use Rattle.std.specs.Prelude.{◌≡◌, ◌+◌, ◌*◌, ◌<◌, ◌≤◌, ◌∷◌, [], length, drop, MatchOption};
+ghost use Rattle.std.specs.Prelude.{◌≡◌, ◌+◌, ◌*◌, ◌<◌, ◌≤◌, ◌∷◌, [], length, drop, IfOk, IsOkUnless, MatchOption};
 ghost use Rattle.calvin_order.specs.Merged.{numbered};
 ghost use Rattle.calvin_order.specs.Walking.{placed};
 
-use calvin_types::{MOST_PARTITIONS, MOST_REQUESTS, Place, Shared, Txn};
+use calvin_shared_txn::SharedTxn;
+use calvin_types::{Fault, MOST_PARTITIONS, MOST_REQUESTS, Place, Shared, Txn};
 use std::marker::Model;
 
 /// One or more requests of an epoch that follow one another in the merged order, each at its place. They lie in memory that
@@ -53,6 +54,16 @@ impl<Args: Copy> MergedSegment<Args> {
         ensures { self.now ≡ placed result ∷ drop 1 self.now }
     {
         (self.place, &self.requests.as_slice()[self.given])
+    }
+
+    /// The first request, at its place, in the memory in which it lies, which gets one more owner. It takes none, and is refused
+    /// with `OutOfMemory` only where there are 2^63 - 1 owners.
+    pub fn share_first(&self) -> Result<(Place, SharedTxn<Args>), Fault>
+        ensures first { IfOk result (λ first. self.now ≡ first ∷ drop 1 self.now) }
+        ensures only { IsOkUnless result Fault.OutOfMemory }
+    {
+        let requests = self.requests.share()?;
+        Ok((self.place, SharedTxn::new(requests, self.given)))
     }
 
     /// What is left without the first request, if there is another.

@@ -36,7 +36,7 @@ pub fn count_requests<T, B: BatchSource<T>>(batches: &B, epoch: u64, groups: u8)
 }
 
 /// Whether the batches of an epoch are woven.
-pub(crate) fn is_woven(config: &Config, epoch: u64) -> bool
+pub fn is_woven(config: &Config, epoch: u64) -> bool
     ensures { result ≡ is_woven config.now.woven_from epoch }
 {
     match config.woven_from {

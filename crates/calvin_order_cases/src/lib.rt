@@ -12,6 +12,8 @@ mod keys;
 #[cfg(test)]
 mod merge;
 #[cfg(test)]
+mod pending;
+#[cfg(test)]
 mod scarce_order;
 #[cfg(test)]
 mod scarce_types;

@@ -1,9 +1,10 @@
-//! What is shared, batches and maps with room, where what is refused for want of memory is asked for once more. With ample memory
-//! nothing is refused. `rt try --test --fail-alloc N` refuses the Nth allocation of a test: for each N, from 1 until
-//! `nothing_refused` has passed for many in turn, `refused_once` has to pass (`tools/check_refusals`).
+//! What is shared, requests and batches among it, and maps with room, where what is refused for want of memory is asked for once
+//! more. With ample memory nothing is refused. `rt try --test --fail-alloc N` refuses the Nth allocation of a test: for each N, from
+//! 1 until `nothing_refused` has passed for many in turn, `refused_once` has to pass (`tools/check_refusals`).
 use crate::checks::same;
 use crate::keys::refusal;
 use crate::merge::txn;
+use calvin_shared_txn::SharedTxn;
 use calvin_types::{Batch, Fault, RoomMap, Shared, Slot, Txn};
 use std::alloc::Global;
 use std::process::Abort;
@@ -78,6 +79,19 @@ fn shared_endured(rt: &impl Abort, alloc: Global) -> Result<u32, Fault> {
     Ok(refused)
 }
 
+/// A request that is copied for its owners is the same for each of them.
+fn shared_txn_endured(rt: &impl Abort, alloc: Global) -> Result<u32, Fault> {
+    let (one, refused) = match SharedTxn::of(alloc, &txn(6)) {
+        Err(Fault::OutOfMemory) => (SharedTxn::of(alloc, &txn(6))?, 1),
+        made => (made?, 0),
+    };
+    let other = one.share()?;
+    same(rt, one.get().id.number, 6);
+    drop(one);
+    same(rt, other.get().id.number, 6);
+    Ok(refused)
+}
+
 fn slot(epoch: u64) -> Slot {
     Slot { epoch, group: 0 }
 }
@@ -124,7 +138,7 @@ fn fill(rt: &impl Abort, map: &mut Values) -> u32 {
 /// How many calls were refused.
 fn endured(rt: &impl Abort, alloc: Global) -> Result<u32, Fault> {
     let at_batch = batch_endured(rt, alloc)?;
-    let at_shared = shared_endured(rt, alloc)?;
+    let at_shared = shared_endured(rt, alloc)?.saturating_add(shared_txn_endured(rt, alloc)?);
     let mut map: Values = RoomMap::new(alloc);
     let at_map = fill(rt, &mut map);
     drop(map);

@@ -9,10 +9,10 @@ use Rattle.std.specs.List.{All, filter, flat_map, list_all}
 use Rattle.std.specs.List.Sorted.{ties, IsStableByKey}
 use Rattle.std.specs.FinMap.{entries, from_entries, get-from_entries, same_map}
 use Rattle.std.specs.FinMap.Entries.{find, put, by_order, find-append}
-use Rattle.std.specs.Option.{is_some, option_to_list}
+use Rattle.std.specs.Option.{is_some, option_and_then, option_to_list}
 use Rattle.std.proofs.lemmas.Bool.{false≢true, not-true, and_parts, and_from}
 use Rattle.std.proofs.lemmas.Grind.{flat_map-append}
-use Rattle.std.proofs.lemmas.List.{append-nil}
+use Rattle.std.proofs.lemmas.List.{append-nil, append_assoc}
 use Rattle.std.proofs.lemmas.List.Elements.{All-head, All-tail}
 use Rattle.std.proofs.lemmas.Option.{slice_get-get_or, same_Some}
 use Rattle.calvin_types.specs.declared.place.Place.{Place}
@@ -22,12 +22,14 @@ use Rattle.calvin_types.proofs.Fews.{take_at}
 use Rattle.calvin_types.proofs.PlaceOrder.{place_total, place_exact}
 use Rattle.calvin_app.specs.declared.answer.Answer.{Answer}
 use Rattle.calvin_node_packets.specs.declared.packet.Packet.{Packet}
+use Rattle.calvin_node_packets.specs.declared.packet.Content.{Content}
 use Rattle.calvin_node_packets.specs.declared.packet.Content.TheVariants as content
+use Rattle.calvin_node_packets.specs.Packets.{answered, replied as replied_to}
 use Rattle.calvin_sched.specs.Scheduling.{is_past}
 use Rattle.calvin_report.specs.FirstPut.{put_first}
 use Rattle.calvin_report.specs.Replies.{ByPlace, reply_in}
 use Rattle.calvin_report.specs.Notes.{reply_at, noted, IsNote, AreInOrder}
-use Rattle.calvin_report.proofs.ByPlace.{first_kept, one_more}
+use Rattle.calvin_report.proofs.ByPlace.{first_kept}
 
 -- ---- places in order
 
@@ -217,20 +219,58 @@ module _ {Args Row Reply : Type 0} (packets : List (Packet Args Row Reply)) (xs 
 
 -- ---- packet by packet
 
-module _ {Args Row Reply : Type 0} (packets : List (Packet Args Row Reply)) (i : ℕ) (p : Packet Args Row Reply) (less : i < length packets) (is : p ≡ get_or packets i p) where
+module _ {Args Row Reply : Type 0} where
   abbrev told : List (Packet Args Row Reply) → ByPlace Reply
   told ps = flat_map (λ (r : Packet Args Row Reply). reply_in r.content) ps
 
-  reply_here : reply_at packets i ≡ reply_in p.content
-  reply_here = ap (λ o. flat_map (λ (r : Packet Args Row Reply). reply_in r.content) (option_to_list o)) (slice_get-get_or packets i p less ∙ ap Some (sym is)) ∙ append-nil (reply_in p.content)
+  more_told : (packets : List (Packet Args Row Reply)) (i : ℕ) → told (take (suc i) packets) ≡ told (take i packets) ++ reply_at packets i
+  more_told [] zero = refl
+  more_told [] (suc i) = refl
+  more_told (p ∷ ps) zero = refl
+  more_told (p ∷ ps) (suc i) = ap (λ es. reply_in p.content ++ es) (more_told ps i) ∙ sym (append_assoc (reply_in p.content) (told (take i ps)) (reply_at ps i))
 
-  pub is_note : (q : Place) (id : RequestId) (attempt : ℕ) (answer : Answer Reply) → p.content ≡ content.Replies q id attempt answer → IsNote packets (q, i)
-  is_note q id attempt answer says = ((id, answer), reply_here ∙ ap reply_in says)
+  said_reply : (c : Content Args Row Reply) (x : Place × RequestId × ℕ) → Some x ≡ replied_to c → (a : Answer Reply) × (Some a ≡ answered c) × (reply_in c ≡ (x.0, (x.1, a)) ∷ [])
+  said_reply (content.Replies q id attempt answer) x is = (answer, refl, ap (λ (y : Place × RequestId × ℕ). (y.0, (y.1, answer)) ∷ []) (sym (same_Some x (q, id, attempt) is)))
+  said_reply (content.Synod message) x is = absurd (cc)
+  said_reply (content.Decided slot batch) x is = absurd (cc)
+  said_reply (content.AskBatch slot) x is = absurd (cc)
+  said_reply (content.Reads q rows) x is = absurd (cc)
+  said_reply (content.AskReads q) x is = absurd (cc)
+  said_reply (content.Warm sets) x is = absurd (cc)
 
-  pub noted_here : (q : Place) (notes : List (Place × ℕ)) → noted packets notes ≡ told (take i packets) → noted packets (notes ++ (q, i) ∷ []) ≡ told (take (i + 1) packets)
-  noted_here q notes so_far =
-      flat_map-append (λ (n : Place × ℕ). reply_at packets n.1) notes ((q, i) ∷ []) ∙ ap (λ es. noted packets notes ++ es) (append-nil (reply_at packets i) ∙ reply_here)
-      ∙ ap (λ es. es ++ reply_in p.content) so_far ∙ sym (one_more packets i p less is)
+  said_none : (c : Content Args Row Reply) → None ≡ replied_to c → reply_in c ≡ []
+  said_none (content.Replies q id attempt answer) is = absurd (cc)
+  said_none (content.Synod message) is = refl
+  said_none (content.Decided slot batch) is = refl
+  said_none (content.AskBatch slot) is = refl
+  said_none (content.Reads q rows) is = refl
+  said_none (content.AskReads q) is = refl
+  said_none (content.Warm sets) is = refl
 
-  pub passed_here : reply_in p.content ≡ [] → (notes : List (Place × ℕ)) → noted packets notes ≡ told (take i packets) → noted packets notes ≡ told (take (i + 1) packets)
-  passed_here none notes so_far = so_far ∙ sym (one_more packets i p less is ∙ ap (λ es. told (take i packets) ++ es) none ∙ append-nil (told (take i packets)))
+  -- what the packet of a number replies, by what an outbox tells of it
+  of_some : (o : Option (Packet Args Row Reply)) (x : Place × RequestId × ℕ) → Some x ≡ option_and_then (λ p. replied_to p.content) o
+      → (a : Answer Reply) × (Some a ≡ option_and_then (λ p. answered p.content) o) × (flat_map (λ (p : Packet Args Row Reply). reply_in p.content) (option_to_list o) ≡ (x.0, (x.1, a)) ∷ [])
+  of_some None x is = absurd (cc)
+  of_some (Some p) x is = let here = said_reply p.content x is in (here.0, here.1, append-nil (reply_in p.content) ∙ here.2)
+
+  of_none : (o : Option (Packet Args Row Reply)) → None ≡ option_and_then (λ p. replied_to p.content) o → flat_map (λ (p : Packet Args Row Reply). reply_in p.content) (option_to_list o) ≡ []
+  of_none None is = refl
+  of_none (Some p) is = append-nil (reply_in p.content) ∙ said_none p.content is
+
+  module _ (packets : List (Packet Args Row Reply)) (i : ℕ) where
+    pub no_reply_here : None ≡ option_and_then (λ p. replied_to p.content) (slice_get packets i) → reply_at packets i ≡ []
+    no_reply_here is = of_none (slice_get packets i) is
+
+    pub is_note : (x : Place × RequestId × ℕ) → Some x ≡ option_and_then (λ p. replied_to p.content) (slice_get packets i) → IsNote packets (x.0, i)
+    is_note x is = let here = of_some (slice_get packets i) x is in ((x.1, here.0), here.2)
+
+    one_on : suc i ≡ i + 1
+    one_on = omega arith
+
+    pub noted_here : (q : Place) (notes : List (Place × ℕ)) → noted packets notes ≡ told (take i packets) → noted packets (notes ++ (q, i) ∷ []) ≡ told (take (i + 1) packets)
+    noted_here q notes so_far =
+        flat_map-append (λ (n : Place × ℕ). reply_at packets n.1) notes ((q, i) ∷ []) ∙ ap (λ es. noted packets notes ++ es) (append-nil (reply_at packets i))
+        ∙ ap (λ es. es ++ reply_at packets i) so_far ∙ sym (more_told packets i) ∙ ap (λ n. told (take n packets)) one_on
+
+    pub passed_here : reply_at packets i ≡ [] → (notes : List (Place × ℕ)) → noted packets notes ≡ told (take i packets) → noted packets notes ≡ told (take (i + 1) packets)
+    passed_here none notes so_far = so_far ∙ sym (append-nil (told (take i packets))) ∙ ap (λ es. told (take i packets) ++ es) (sym none) ∙ sym (more_told packets i) ∙ ap (λ n. told (take n packets)) one_on

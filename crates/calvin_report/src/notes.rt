@@ -9,41 +9,40 @@ ghost use Rattle.calvin_report.specs.Notes.{reply_at, noted, IsNote, AreInOrder}
 ghost use Rattle.calvin_report.specs.Replies.{reply_in};
 
 use crate::replies::Replies;
-use calvin_app::Answer;
-use calvin_node_packets::{Content, Packet};
+use calvin_app::{Answer, App};
+use calvin_node_packets::Outbox;
 use calvin_types::{Fault, Place, RequestId};
 use std::alloc::Global;
 
 /// The packets that reply, in the order in which they were sent: the place at which each does, and its number. Refused with
 /// `OutOfMemory` where a growth was refused.
-pub(crate) fn notes_of<Args, Row, R: Copy>(
+pub(crate) fn notes_of<A: App>(
     alloc: Global,
-    packets: &[Packet<Args, Row, R>],
+    packets: &Outbox<A>,
 ) -> Result<Vec<(Place, usize)>, Fault>
-    ensures noted { IfOk result (λ notes. noted packets.now notes.items ≡ flat_map (λ p. reply_in p.content) packets.now) }
-    ensures each { IfOk result (λ notes. All (IsNote packets.now) notes.items) }
+    ensures noted { IfOk result (λ notes. noted packets.now.packets notes.items ≡ flat_map (λ p. reply_in p.content) packets.now.packets) }
+    ensures each { IfOk result (λ notes. All (IsNote packets.now.packets) notes.items) }
     ensures only { IsOkUnless result Fault.OutOfMemory }
 {
     let mut notes = Vec::new(alloc);
     for number in 0..packets.len() {
-        if let Content::Replies(place, _id, _attempt, _answer) = &packets[number].content {
-            notes.push((*place, number))?;
+        if let Some((place, _id, _attempt)) = packets.reply(number) {
+            notes.push((place, number))?;
         }
     }
     Ok(notes)
 }
 
 /// What the packet of a number replies, if it does.
-fn reply_of<Args, Row, R: Copy>(
-    packets: &[Packet<Args, Row, R>],
+fn reply_of<A: App>(
+    packets: &Outbox<A>,
     number: usize,
-) -> Option<(Place, (RequestId, Answer<R>))>
-    ensures { option_to_list result ≡ reply_at packets.now number }
+) -> Option<(Place, (RequestId, Answer<A::Reply>))>
+    ensures { option_to_list result ≡ reply_at packets.now.packets number }
 {
-    match &packets.get(number)?.content {
-        Content::Replies(place, id, _attempt, answer) => Some((*place, (*id, *answer))),
-        _ => None,
-    }
+    let (place, id, _attempt) = packets.reply(number)?;
+    let answer = packets.answer(number)?;
+    Some((place, (id, answer)))
 }
 
 /// Whether a place is after the last one, if there is one.
@@ -58,14 +57,14 @@ fn is_past(last: Option<Place>, place: Place) -> bool
 
 /// What is replied at each place by the first of the packets that are noted there, in the order of the places. Refused with
 /// `OutOfMemory` where a growth was refused.
-pub(crate) fn first_replies<Args, Row, R: Copy>(
+pub(crate) fn first_replies<A: App>(
     alloc: Global,
-    packets: &[Packet<Args, Row, R>],
+    packets: &Outbox<A>,
     notes: &[(Place, usize)],
-) -> Result<Replies<R>, Fault>
-    requires each { All (IsNote packets.now) notes.now }
+) -> Result<Replies<A::Reply>, Fault>
+    requires each { All (IsNote packets.now.packets) notes.now }
     requires order { AreInOrder notes.now }
-    ensures ok { IfOk result (λ replies. replies.items ≡ entries (from_entries {R = place_cmp} (noted packets.now notes.now))) }
+    ensures ok { IfOk result (λ replies. replies.items ≡ entries (from_entries {R = place_cmp} (noted packets.now.packets notes.now))) }
     ensures only { IsOkUnless result Fault.OutOfMemory }
 {
     let mut replies = Vec::new(alloc);

@@ -4,8 +4,8 @@ ghost use Rattle.std.specs.FinMap.{entries};
 ghost use Rattle.calvin_report.specs.Replies.{replied, is_told, of_epochs, reply_lines};
 
 use crate::notes::{first_replies, notes_of};
-use calvin_app::Answer;
-use calvin_node_packets::Packet;
+use calvin_app::{Answer, App};
+use calvin_node_packets::Outbox;
 use calvin_text::{Printed, push_line};
 use calvin_types::{Fault, Place, RequestId};
 use std::alloc::{AllocError, Global};
@@ -36,11 +36,8 @@ impl Epochs {
 
 /// What was replied at each place in all these packets: where several replies were sent at a place, the first of them. They are
 /// noted by their places and sorted, so that none is copied but these. Refused with `OutOfMemory` where a growth was refused.
-pub fn replies_of<Args, Row, R: Copy>(
-    alloc: Global,
-    packets: &[Packet<Args, Row, R>],
-) -> Result<Replies<R>, Fault>
-    ensures ok { IfOk result (λ replies. replies.items ≡ entries (replied packets.now)) }
+pub fn replies_of<A: App>(alloc: Global, packets: &Outbox<A>) -> Result<Replies<A::Reply>, Fault>
+    ensures ok { IfOk result (λ replies. replies.items ≡ entries (replied packets.now.packets)) }
     ensures only { IsOkUnless result Fault.OutOfMemory }
 {
     let mut notes = notes_of(alloc, packets)?;

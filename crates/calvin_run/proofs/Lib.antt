@@ -2,3 +2,4 @@ mod Growing
 mod Submitted
 mod Ends
 mod AtNodes
+mod Whole

@@ -32,7 +32,7 @@ impl<A: App, L: Locks + Drop, S: Rows<A::Row> + Drop> Scheduler<A, L, S> {
         let turn = self.due(place)?;
         let txn = turn.txn();
         if turn.reads_here_alone(&self.config, self.partition) {
-            run_on(app, txn, turn.served(), answer, writes);
+            run_on(app, txn, &turn.served(), answer, writes);
         } else {
             let view = turn.whole_view(&self.config, self.partition);
             run_on(app, txn, &view, answer, writes);

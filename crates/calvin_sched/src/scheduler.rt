@@ -22,6 +22,7 @@ use crate::turns::Turns;
 use calvin_app::{Answer, App, Computed, Job, View, is_same_job};
 use calvin_lock::Locks;
 use calvin_order::{BatchSource, EpochRequests, count_requests};
+use calvin_shared_txn::SharedTxn;
 use calvin_store::{Rows, Snapshot};
 use calvin_types::{Config, Fault, Place, Txn};
 use std::alloc::Global;
@@ -150,35 +151,76 @@ impl<A: App, L: Locks + Drop, S: Rows<A::Row> + Drop> Scheduler<A, L, S> {
     }
 
     /// A request that waits for its locks here, with room for all rows that are to come.
-    fn new_turn(&self, place: Place, txn: &Txn<A::Args>) -> Result<Turn<A>, Fault>
-        ensures turn { IfOk result (λ k. k.turn ≡ new_turn txn.now) }
+    fn new_turn(&self, txn: SharedTxn<A::Args>) -> Result<Turn<A>, Fault>
+        ensures turn { IfOk result (λ k. k.turn ≡ new_turn txn) }
         ensures room { IfOk result (λ k. length (awaited self.now.here k.turn) ≤ k.room) }
         ensures only { IsOkUnless result Fault.OutOfMemory }
     {
-        let mut turn = Turn::new(self.alloc, place, txn)?;
+        let mut turn = Turn::new(self.alloc, txn)?;
         let partitions = turn.count_awaited(&self.config, self.partition);
         turn.reserve(partitions)?;
         Ok(turn)
     }
 
+    /// Whether a request is admitted here, and not refused or passed over: its place is after the last one, and a key is
+    /// stored here.
+    fn takes(&self, place: Place, txn: &Txn<A::Args>) -> bool
+        ensures { result ≡ (is_past self.now.scheduling.last place && not (is_before place self.now.scheduling.opened_from) && has_local_key self.now.here txn.now) }
+    {
+        self.is_next(place) && txn.is_participant(&self.config, self.partition)
+    }
+
     /// Admits a request: it asks for the locks of the keys that are stored here. One with no key here is passed over.
     /// Refused with `AdmittedOutOfOrder` where the place isn't after the last one that was admitted or passed over, or is
-    /// of an epoch before the opening one; else with `OutOfMemory` where a key is stored here and a growth was refused.
+    /// of an epoch before the opening one; else with `OutOfMemory` where a key is stored here and a growth was refused. The
+    /// request is copied where it has a key here.
     pub fn admit(&mut self, place: Place, txn: &Txn<A::Args>) -> Result<(), Fault>
+        ensures did { Did (has_local_key self.old.here txn.now) result (steps.admit self.old.here place txn.now self.old.scheduling) self.old.scheduling self.new.scheduling }
+        ensures rest { self.new ≡ record self.old { scheduling = self.new.scheduling } }
+    {
+        if !self.takes(place, txn) {
+            return self.pass_over(place, txn);
+        }
+        let txn = SharedTxn::of(self.alloc, txn)?;
+        self.admit_here(place, txn)
+    }
+
+    /// The same as `admit`, of a request that isn't copied: it stays in the memory in which it lies.
+    pub fn admit_shared(&mut self, place: Place, txn: SharedTxn<A::Args>) -> Result<(), Fault>
+        ensures did { Did (has_local_key self.old.here txn) result (steps.admit self.old.here place txn self.old.scheduling) self.old.scheduling self.new.scheduling }
+        ensures rest { self.new ≡ record self.old { scheduling = self.new.scheduling } }
+    {
+        if !self.takes(place, txn.get()) {
+            return self.pass_over(place, txn.get());
+        }
+        self.admit_here(place, txn)
+    }
+
+    /// Refuses a request whose place isn't after the last one, and passes over one with no key here: it is one of these.
+    fn pass_over(&mut self, place: Place, txn: &Txn<A::Args>) -> Result<(), Fault>
+        requires { (is_past self.old.scheduling.last place && not (is_before place self.old.scheduling.opened_from) && has_local_key self.old.here txn.now) ≡ false }
         ensures did { Did (has_local_key self.old.here txn.now) result (steps.admit self.old.here place txn.now self.old.scheduling) self.old.scheduling self.new.scheduling }
         ensures rest { self.new ≡ record self.old { scheduling = self.new.scheduling } }
     {
         if !self.is_next(place) {
             return Err(Fault::AdmittedOutOfOrder);
         }
-        if !txn.is_participant(&self.config, self.partition) {
-            self.last = Some(place);
-            return Ok(());
-        }
-        let turn = self.new_turn(place, txn)?;
+        self.last = Some(place);
+        Ok(())
+    }
+
+    /// Admits a request with a key here at a place that is after the last one. Refused with `OutOfMemory` where a growth was
+    /// refused.
+    fn admit_here(&mut self, place: Place, txn: SharedTxn<A::Args>) -> Result<(), Fault>
+        requires { (is_past self.old.scheduling.last place && not (is_before place self.old.scheduling.opened_from) && has_local_key self.old.here txn) ≡ true }
+        ensures did { Did (has_local_key self.old.here txn) result (steps.admit self.old.here place txn self.old.scheduling) self.old.scheduling self.new.scheduling }
+        ensures rest { self.new ≡ record self.old { scheduling = self.new.scheduling } }
+    {
+        let sets = &txn.get().sets;
+        let reads = sets.reads.part(&self.config, self.partition);
+        let writes = sets.writes.part(&self.config, self.partition);
+        let turn = self.new_turn(txn)?;
         self.turns.reserve()?;
-        let reads = txn.sets.reads.part(&self.config, self.partition);
-        let writes = txn.sets.writes.part(&self.config, self.partition);
         self.locks.up_to_last();
         self.locks.request(place, &reads, &writes)?;
         self.turns.insert(place, turn);
@@ -363,7 +405,7 @@ impl<A: App, L: Locks + Drop, S: Rows<A::Row> + Drop> Scheduler<A, L, S> {
         };
         match turn.phase() {
             Phase::Waiting => Err(Fault::NotServed),
-            Phase::Begun | Phase::Done => Ok(*turn.served()),
+            Phase::Begun | Phase::Done => Ok(turn.served()),
         }
     }
 

@@ -14,23 +14,27 @@ use crate::came::Came;
 use crate::phase::Phase;
 use crate::reading::Reading;
 use crate::serving::Serving;
-use calvin_app::{App, Job, View, look_up};
+use calvin_app::{App, View, look_up};
+use calvin_row_list::RowList;
+use calvin_shared_txn::SharedTxn;
 use calvin_store::Rows;
-use calvin_types::{Config, Fault, Few, Key, KeySet, Place, Txn};
+use calvin_types::{Config, Fault, Few, Key, KeySet, Txn};
 use std::alloc::Global;
 use std::marker::Model;
 
 /// An admitted request at one partition: how far it is, the rows that were read here, and those that came from other
-/// partitions. Contracts see also for how many more partitions' rows there is room.
+/// partitions. Contracts see also for how many more partitions' rows there is room. The request isn't copied, and there is room
+/// for the rows of all keys that it reads, so that it begins without more memory.
 #[derive(Drop)]
 pub struct Turn<A: App> {
-    job: Box<Job<A::Args, A::Row>>,
+    request: SharedTxn<A::Args>,
+    served: RowList<A::Row>,
     phase: Phase,
     came: Came<A>,
 }
 
 impl<A: App> Model for Turn<A> {
-    ghost use Rattle.std.specs.Prelude.{◌≡◌};
+    ghost use Rattle.std.specs.Prelude.{◌≡◌, ◌≤◌, length};
     ghost use Rattle.calvin_sched.specs.Keeping.{Kept};
     ghost use Rattle.calvin_sched.specs.Scheduling.{gathered};
     ghost use Rattle.std.specs.Coded.{codes};
@@ -41,27 +45,24 @@ impl<A: App> Model for Turn<A> {
     ghost coded = { Prim.hlevel (codes, code) };
 
     ghost view = { λ t. record {
-      turn = record { request = t.job.value.txn; phase = t.phase; served = t.job.value.view; came = t.came.rows };
+      turn = record { request = t.request; phase = t.phase; served = t.served.rows; came = t.came.rows };
       room = t.came.room;
     } };
 
-    ghost invariant = { λ t. gathered (λ _. t.job.value.view) t.job.value.txn.sets.reads ≡ t.job.value.view };
+    ghost invariant = { λ t. (gathered (λ _. t.served.rows) t.request.sets.reads ≡ t.served.rows) × (length t.request.sets.reads ≤ t.served.room) };
 }
 
 impl<A: App> Turn<A> {
-    /// A request that waits for its locks. Refused with `OutOfMemory` where there is no memory for it.
-    pub(crate) fn new(alloc: Global, place: Place, txn: &Txn<A::Args>) -> Result<Turn<A>, Fault>
-        ensures turn { IfOk result (λ k. k.turn ≡ new_turn txn.now) }
+    /// A request that waits for its locks. Refused with `OutOfMemory` where there is no memory for the rows that it reads.
+    pub(crate) fn new(alloc: Global, request: SharedTxn<A::Args>) -> Result<Turn<A>, Fault>
+        ensures turn { IfOk result (λ k. k.turn ≡ new_turn request) }
         ensures only { IsOkUnless result Fault.OutOfMemory }
     {
-        let job = Job {
-            place,
-            txn: *txn,
-            view: View::new(),
-        };
-        let job = Box::new(alloc, job)?;
+        let mut served = RowList::new(alloc);
+        served.reserve(request.get().sets.reads.len())?;
         Ok(Turn {
-            job,
+            request,
+            served,
             phase: Phase::Waiting,
             came: Came::new(alloc),
         })
@@ -81,14 +82,14 @@ impl<A: App> Turn<A> {
     pub fn txn(&self) -> &Txn<A::Args>
         ensures { result.now ≡ self.now.turn.request }
     {
-        &self.job.txn
+        self.request.get()
     }
 
     /// The keys that it reads.
     fn reads(&self) -> &KeySet
         ensures { result.now ≡ self.now.turn.request.sets.reads }
     {
-        &self.job.txn.sets.reads
+        &self.request.get().sets.reads
     }
 
     /// How far it is.
@@ -106,20 +107,20 @@ impl<A: App> Turn<A> {
     }
 
     /// The rows that were read here.
-    pub fn served(&self) -> &View<A::Row>
-        ensures { result.now ≡ self.now.turn.served }
+    pub fn served(&self) -> View<A::Row>
+        ensures { result ≡ self.now.turn.served }
     {
-        &self.job.view
+        self.served.view()
     }
 
     /// Whether rows of another partition are still to come.
     pub(crate) fn awaits(&self, config: &Config, partition: u8, from: u8) -> bool
         ensures { result ≡ awaits (site config.now.partitions partition) self.now.turn from }
     {
-        if from == partition || !self.job.txn.sets.reads.has_local(config, from) {
+        if from == partition || !self.reads().has_local(config, from) {
             return false;
         }
-        if self.phase == Phase::Done || !self.job.txn.is_active(config, partition) {
+        if self.phase == Phase::Done || !self.txn().is_active(config, partition) {
             return false;
         }
         !self.came.has(from)
@@ -174,7 +175,7 @@ impl<A: App> Turn<A> {
     {
         let from = config.partition_of(key);
         if from == partition {
-            return self.job.view.get(key);
+            return self.served.get(key);
         }
         match self.came.get(from) {
             Some(rows) => rows.get(key),
@@ -221,7 +222,7 @@ impl<A: App> Turn<A> {
         if other == partition {
             return false;
         }
-        self.job.txn.is_active(config, other)
+        self.txn().is_active(config, other)
     }
 
     /// The other partitions that run the request, ascending.
@@ -258,8 +259,9 @@ impl<A: App> Turn<A> {
         ensures room { self.new.room ≡ self.old.room }
     {
         let keys = self.reads().part(config, partition);
-        self.job.view.clear();
-        look_up(&Reading { rows }, &keys, &mut self.job.view);
+        let mut seen = View::new();
+        look_up(&Reading { rows }, &keys, &mut seen);
+        self.served.set(&seen);
     }
 
     /// Reads what is stored here. Where the request is passive here it is done, as others run it.
@@ -277,8 +279,8 @@ impl<A: App> Turn<A> {
         ensures { result ≡ serving (site config.now.partitions partition) self.now.turn }
     {
         Serving {
-            txn: self.job.txn,
-            rows: self.job.view,
+            txn: *self.txn(),
+            rows: self.served(),
             others: self.others(config, partition),
         }
     }

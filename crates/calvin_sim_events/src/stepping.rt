@@ -102,10 +102,8 @@ pub(crate) fn is_of_lost<A: App + Drop>(
 ) -> bool
     ensures { result ≡ is_lossy {Args = A.Args} (is_lost lost) world.now.packets (Deliver number) }
 {
-    match world.packets().get(number) {
-        Some(packet) => is_lost(lost, packet.from.replica),
-        None => false,
-    }
+    let packets = world.packets();
+    number < packets.len() && is_lost(lost, packets.sender(number).replica)
 }
 
 /// The node that the packet of a number is for: none, where it is for a client, or its replica is the one whose packets are lost, or
@@ -117,11 +115,12 @@ fn addressee<A: App + Drop>(
 ) -> Option<NodeId>
     ensures { is_some result ≡ is_due (is_lost lost) world.now.packets number }
 {
-    let packet = world.packets().get(number)?;
-    if is_lost(lost, packet.from.replica) {
+    let packets = world.packets();
+    let to = packets.address(number)?;
+    if is_lost(lost, packets.sender(number).replica) {
         return None;
     }
-    match packet.to {
+    match to {
         Address::AtNode(id) => Some(id),
         Address::AtClient(_) => None,
     }

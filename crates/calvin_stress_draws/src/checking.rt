@@ -2,7 +2,6 @@
 use crate::drawing::args_of;
 use calvin_app::{Answer, Kv, KvReply, KvRequest};
 use calvin_book::StoreBook;
-use calvin_node_packets::Content;
 use calvin_types::{Fault, Few, MOST_KEYS, Place, RequestId};
 use std::alloc::Global;
 use std::collections::HashMap;
@@ -19,26 +18,23 @@ pub struct Replied {
 fn replies(alloc: Global, book: &StoreBook<Kv>) -> Result<Option<Vec<Replied>>, Fault> {
     let mut by_place: HashMap<Place, Replied> = HashMap::new(alloc);
     let mut places = Vec::new(alloc);
-    for packet in book.world().packets() {
-        let Content::Replies(place, id, _attempt, answer) = &packet.content else {
+    let packets = book.world().packets();
+    for number in 0..packets.len() {
+        let Some((place, id, _attempt)) = packets.reply(number) else {
             continue;
         };
-        match by_place.get(place) {
+        let Some(answer) = packets.answer(number) else {
+            continue;
+        };
+        match by_place.get(&place) {
             Some(reply) => {
-                if reply.id != *id || reply.answer != *answer {
+                if reply.id != id || reply.answer != answer {
                     return Ok(None);
                 }
             }
             None => {
-                places.push(*place)?;
-                by_place.insert(
-                    *place,
-                    Replied {
-                        place: *place,
-                        id: *id,
-                        answer: *answer,
-                    },
-                )?;
+                places.push(place)?;
+                by_place.insert(place, Replied { place, id, answer })?;
             }
         }
     }

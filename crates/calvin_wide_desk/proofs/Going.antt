@@ -2,6 +2,7 @@
 --     at_seam, last_in, last_is      an element between others, and the last one
 --     numbered_next, numbered_length, at_numbered, whole_at      things with their numbers
 --     one_more      what holds of each of a list's first elements holds of one more
+--     told_there      of what something is told
 --     has_sent      what a node has sent
 --     sent_stays      what a longer history makes of a node has sent what it had sent before
 --     next_locked, AreMarkedAt, marked_more      the nodes of a store, and marks of them, one by one
@@ -31,6 +32,11 @@ use Rattle.calvin_wide_desk.specs.declared.receipt.Entered.{Entered}
 use Rattle.calvin_wide_desk.specs.declared.receipt.Replied.{Replied}
 use Rattle.calvin_wide_desk.specs.Receipts.{IsEntry, HasSent, IsReply, IsEnteredIn, IsRepliedIn}
 use Rattle.calvin_wide_desk.specs.Stopping.{numbered, HasLife, HaveLived}
+
+-- what is told of something is told of what is there
+pub told_there : {X Y : Type 0} (f : X → Option Y) (o : Option X) (y : Y) → option_and_then f o ≡ Some y → (x : X) × (o ≡ Some x) × (f x ≡ Some y)
+told_there f None y is = absurd (none-some y is)
+told_there f (Some x) y is = (x, refl, is)
 
 before_or_at : (i n : ℕ) → i < n + 1 → (i < n) ⊎ (i ≡ n)
 before_or_at zero zero less = inr refl
@@ -145,9 +151,9 @@ module _ {Args Row Reply : Type 0} (m : Meaning Args Row Reply) (c : Config) whe
   life_after life (x ∷ xs) ys l is = go_on xs ys l (λ next. life_after next xs ys l) (lives_on life (deed_in m c x life.state)) is
 
   pub has_sent : (n : Lived Args Row Reply) (id : NodeId) (history : List (Entry Args Row Reply)) (state : NodeState Args Row) (sent : List (Packet Args Row Reply)) → IsLife m n state sent → n.config ≡ c → id ≡ n.id → history ≡ n.history
-      → (number : ℕ) (p : Packet Args Row Reply) → number < length sent → p ≡ get_or sent number p → HasSent m c id history number p
-  has_sent n id history state sent lived is_config is_id is_history number p less is =
-      record { life = record { state = state; sent = sent }; lived = (λ i. life_of m (sym is_config i) (new_life (is_id i)) (is_history i)) ∙ lived; sent = slice_get_read sent (length sent) number p refl less is }
+      → (number : ℕ) (p : Packet Args Row Reply) → slice_get sent number ≡ Some p → HasSent m c id history number p
+  has_sent n id history state sent lived is_config is_id is_history number p there =
+      record { life = record { state = state; sent = sent }; lived = (λ i. life_of m (sym is_config i) (new_life (is_id i)) (is_history i)) ∙ lived; sent = there }
 
   pub sent_stays : (id : NodeId) (part whole : List (Entry Args Row Reply)) → IsPrefix part whole → (now : Life Args Row Reply) → life_of m c (new_life id) whole ≡ Some now → (number : ℕ) (p : Packet Args Row Reply) → HasSent m c id part number p → HasSent m c id whole number p
   sent_stays id part whole prefix now lived number p has =

@@ -8,7 +8,7 @@ ghost use Rattle.calvin_wide_desk.specs.Stopping.{HasLife};
 use crate::founding::WideFounding;
 use crate::receipt::{Entered, Replied, WideAnswer, WideTicket};
 use calvin_app::{App, Computed};
-use calvin_book::reply_in;
+use calvin_book::reply_at;
 use calvin_chronicles::{Mark, Naming, Pen, Whole};
 use calvin_histories::{Entry, History, LockedNode};
 use calvin_lock::Locks;
@@ -203,11 +203,8 @@ impl<A: App + Drop, L: Locks + Drop, S: Rows<A::Row> + Drop, J: WideFounding> Wi
             return None;
         }
         let sent = self.locked.sent();
-        if number >= sent.len() {
-            return None;
-        }
         let txn = &ticket.entered.txn;
-        let (_place, answer) = reply_in(txn.id, txn.attempt, &sent[number].content)?;
+        let (_place, answer) = reply_at(txn.id, txn.attempt, sent, number)?;
         let name = PacketName { sender, number };
         let replied = Replied {
             ticket: ticket.entered,

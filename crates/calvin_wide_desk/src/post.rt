@@ -9,7 +9,7 @@ use calvin_app::{App, Computed, Job};
 use calvin_histories::Entry;
 use calvin_lock::Locks;
 use calvin_node::{Act, Node};
-use calvin_node_packets::{Address, Content, Packet};
+use calvin_node_packets::{Address, Packet};
 use calvin_store::Rows;
 use calvin_types::{Config, Fault, NodeId, Place, RequestId, Txn};
 use calvin_world::PacketName;
@@ -175,13 +175,7 @@ impl<A: App + Drop, L: Locks + Drop, S: Rows<A::Row> + Drop, J: WideFounding> Po
 
     /// A copy of the packet that the node sent under a number, if it did and there is room.
     pub fn packet(&self, number: usize) -> Option<Packet<A::Args, A::Row, A::Reply>> {
-        let packet = self.desk.locked().sent().get(number)?;
-        let content = packet.content.copy().ok()?;
-        Some(Packet {
-            from: packet.from,
-            to: packet.to,
-            content,
-        })
+        self.desk.locked().sent().copy(number).ok()?
     }
 
     /// What is to be done next outside the lock, if anything.
@@ -222,24 +216,18 @@ impl<A: App + Drop, L: Locks + Drop, S: Rows<A::Row> + Drop, J: WideFounding> Po
 
     /// The node that a packet is for.
     fn addressee(&self, number: usize) -> Option<NodeId> {
-        match self.desk.locked().sent().get(number) {
-            Some(packet) => match packet.to {
-                Address::AtNode(id) => Some(id),
-                Address::AtClient(_) => None,
-            },
-            None => None,
+        match self.desk.locked().sent().address(number)? {
+            Address::AtNode(id) => Some(id),
+            Address::AtClient(_) => None,
         }
     }
 
     /// The reply that was sent under a number is noted, if it is one and the first to its request. Says whether there was room.
     fn note_reply(&mut self, number: usize) -> bool {
-        let Some(packet) = self.desk.locked().sent().get(number) else {
+        let Some((_place, id, attempt)) = self.desk.locked().sent().reply(number) else {
             return true;
         };
-        let Content::Replies(_place, id, attempt, _answer) = &packet.content else {
-            return true;
-        };
-        let key = (*id, *attempt);
+        let key = (id, attempt);
         self.news.answered = true;
         self.replies.contains_key(&key) || self.replies.insert(key, number).is_ok()
     }

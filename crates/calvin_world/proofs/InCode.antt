@@ -6,9 +6,10 @@
 --     no_node, no_packet, for_a_client, for_nobody      what is refused before a node is asked
 use Rattle.std.proofs.Common.{◌≡◌, ℕ, suc, zero, ◌+◌, ◌*◌, ◌/◌, ◌%◌, ◌<◌, ◌≤◌, inl, inr, Bool, true, ◌&&◌, List, [], ◌∷◌, ◌++◌, map, take, length, length-append, Option, Some, None, Result, Ok, Err, refl, sym, ap, subst, ◌∙◌, arith, slice_get, slice_set}
 use Rattle.std.proofs.lemmas.List.FromFn.{map-range_with_len_more, length-map-range_with_len}
-use Rattle.std.proofs.lemmas.List.{length-set, set-append_left, take_more}
+use Rattle.std.proofs.lemmas.List.{length-set, append-nil, get_or_append_left, get_or-set_same, set-append_left, take_more}
+use Rattle.std.specs.Option.{option_map}
 use lib.ListN.{get_or}
-use Rattle.std.proofs.lemmas.Option.{slice_get-get_or}
+use Rattle.std.proofs.lemmas.Option.{slice_get-get_or, slice_get_within, same_Some}
 use Rattle.std.proofs.lemmas.Bool.{lt-ltb}
 use Rattle.std.specs.Prelude.{nat_lt}
 use Rattle.std.specs.List.{range_with_len}
@@ -28,6 +29,7 @@ use Rattle.calvin_node_acts.specs.declared.act.Act.{Act}
 use Rattle.calvin_node_packets.specs.declared.packet.Address.{Address}
 use Rattle.calvin_node_packets.specs.declared.packet.Address.TheVariants.{AtNode, AtClient}
 use Rattle.calvin_node_packets.specs.declared.packet.Packet.{Packet}
+use Rattle.calvin_node_packets.specs.Packets.{IsLent, CanBePut}
 use Rattle.calvin_world.specs.declared.event.Event.{Event}
 use Rattle.calvin_world.specs.declared.event.Event.TheVariants.{At, Deliver}
 use Rattle.calvin_world.specs.declared.event.Outcome.{Outcome}
@@ -170,25 +172,37 @@ module _ {Args Row Reply : Type 0} (m : Meaning Args Row Reply) (w : WorldState 
     pub for_nobody : (id : NodeId) → p.to ≡ AtNode id → node_at w id ≡ None → SettledStep m w (Deliver number) (Refused NoNode) w
     for_nobody id to none = refused (Deliver number) NoNode (ap (deliver w) sent ∙ ap (deliver_to w p) to ∙ ap (at_node w id (handle w.config p)) none)
 
-  -- the same of the packet that is read there
-  module _ (number : ℕ) (l : List (Packet Args Row Reply)) (same : l ≡ w.packets) (d : Packet Args Row Reply) (within : number < length l) where
-    read : slice_get w.packets number ≡ Some (get_or l number d)
-    read = subst (λ k. slice_get k number ≡ Some (get_or l number d)) same (slice_get-get_or l number d within)
+-- what an outbox tells of the packet of a number
+module _ {Args Row Reply : Type 0} where
+  pub seen : (o : Option (Packet Args Row Reply)) (to : Address) → Some to ≡ option_map (λ p. p.to) o → (p : Packet Args Row Reply) × (o ≡ Some p) × (p.to ≡ to)
+  seen None to e = absurd (cc)
+  seen (Some p) to e = (p, refl, sym (same_Some to p.to e))
 
-    pub client_read : (client : ℕ) → (get_or l number d).to ≡ AtClient client → SettledStep m w (Deliver number) (Refused NotMine) w
-    client_read client to = for_a_client number (get_or l number d) read client to
+  pub unseen : (o : Option (Packet Args Row Reply)) → None ≡ option_map (λ p. p.to) o → o ≡ None
+  unseen None e = refl
+  unseen (Some p) e = absurd (cc)
 
-    pub nobody_read : (id : NodeId) → (get_or l number d).to ≡ AtNode id → node_at w id ≡ None → SettledStep m w (Deliver number) (Refused NoNode) w
-    nobody_read id to none = for_nobody number (get_or l number d) read id to none
+  -- a packet that was taken out can be put back where a node handled it
+  pub handled : (grows : Bool) (r : Result (Unit {0}) Fault) (d : NodeDeed Args Row Reply) (old new : Running Args Row) (sent all : List (Packet Args Row Reply)) → NodeDid grows r d old new sent all → (more : List (Packet Args Row Reply)) × (all ≡ sent ++ more)
+  handled grows (Ok out) (Refuses f) old new sent all did = absurd did
+  handled grows (Ok out) (Does next packets) old new sent all did = (packets, did.1)
+  handled grows (Err f) (Refuses fault) old new sent all did = ([], did.2 ∙ sym (append-nil sent))
+  handled grows (Err f) (Does next packets) old new sent all did = ([], did.3 ∙ sym (append-nil sent))
 
--- the packet that is taken out is the one that was read
-pub to_node : {Args Row Reply : Type 0} (l packets : List (Packet Args Row Reply)) → l ≡ packets → (number : ℕ) (d p : Packet Args Row Reply) → number < length l → slice_get packets number ≡ Some p → (id : NodeId) → (get_or l number d).to ≡ AtNode id → p.to ≡ AtNode id
-to_node {Args} {Row} {Reply} l packets same number d p within sent id to =
-    let is : get_or l number d ≡ p = was_some (get_or l number d) p (sym (slice_get-get_or l number d within) ∙ ap (λ k. slice_get k number) same ∙ sent) in
-    sym (ap (λ (q : Packet Args Row Reply). q.to) is) ∙ to
-  where
-    was_some : (a b : Packet Args Row Reply) → Some a ≡ Some b → a ≡ b
-    was_some a b e = cc
+  pub can_be_put : (before sent all : List (Packet Args Row Reply)) (number : ℕ) (packet : Packet Args Row Reply) → IsLent before sent number packet → (more : List (Packet Args Row Reply)) → all ≡ sent ++ more → CanBePut all number packet
+  can_be_put before sent all number packet lent more is =
+      let low : number < length before = slice_get_within before number packet lent.there in
+      let long : length (slice_set before number lent.other) ≡ length before = length-set before number lent.other in
+      let within : number < length (slice_set before number lent.other) = omega (arith, low, long) in
+      let whole : number < length (slice_set before number lent.other ++ more) = omega (arith, within, length-append (slice_set before number lent.other) more) in
+      let here : get_or (slice_set before number lent.other ++ more) number lent.other ≡ lent.other = get_or_append_left (slice_set before number lent.other) more lent.other number within ∙ get_or-set_same before number lent.other lent.other low in
+      let all_is : all ≡ slice_set before number lent.other ++ more = is ∙ ap (λ ps. ps ++ more) lent.after_is in
+      record {
+        other = lent.other;
+        there = ap (λ ps. slice_get ps number) all_is ∙ slice_get-get_or (slice_set before number lent.other ++ more) number lent.other whole ∙ ap Some here;
+        alike = lent.alike;
+        same = lent.same;
+      }
 
 -- ---- what a node makes of an event
 

@@ -1,20 +1,29 @@
 -- Packets by their names, as they are counted.
+--     packet_from      a packet by who sent it
 --     none_sent_yet      before the first packet nobody has sent one
 --     passed_over      a packet of another sender, or of another number, has another name
 --     counted_here, counted_other      how many the sender has sent, one packet further
 --     is_named      the packet of the number that is counted
-use Rattle.std.proofs.Common.{◌≡◌, ◌≢◌, ℕ, ◌+◌, ◌<◌, ◌≤◌, ◌⊎◌, inl, inr, Bool, true, false, cond, ◌&&◌, List, [], length, take, Some, refl, sym, ap, subst, ◌∙◌, arith}
+use Rattle.std.proofs.Common.{◌≡◌, ◌≢◌, ℕ, ◌+◌, ◌<◌, ◌≤◌, ◌⊎◌, inl, inr, Bool, true, false, cond, ◌&&◌, List, [], length, take, Option, Some, None, refl, sym, ap, subst, ◌∙◌, arith}
 use Rattle.std.specs.Prelude.{◌==◌, slice_get}
+use Rattle.std.specs.Option.{option_map}
 use Rattle.calvin_types.specs.Exact.{first, second}
-use lib.ListN.{get_or}
 use Rattle.std.proofs.lemmas.Bool.{cases_lt, false≢true, eqb-true, eq-eqb}
 use Rattle.std.proofs.lemmas.List.Filters.{length-filter_more}
-use Rattle.std.proofs.lemmas.Option.{slice_get_within, get_or_from_slice_get, slice_get-get_or}
+use Rattle.std.proofs.lemmas.Option.{slice_get_within, get_or_from_slice_get, same_Some}
 use Rattle.calvin_types.specs.declared.place.NodeId.{NodeId}
 use Rattle.calvin_node_packets.specs.Packets.{same_node}
 use Rattle.calvin_node_packets.specs.declared.packet.Packet.{Packet}
 use Rattle.calvin_world.specs.declared.naming.PacketName.{PacketName}
 use Rattle.calvin_world.specs.Names.{sent_by, name_of, IsNamed}
+
+-- the packet of a number, by who sent it
+pub packet_from : {Args Row Reply : Type 0} (packets : List (Packet Args Row Reply)) (n : ℕ) (id : NodeId) → option_map (λ p. p.from) (slice_get packets n) ≡ Some id → (p : Packet Args Row Reply) × (slice_get packets n ≡ Some p) × (p.from ≡ id)
+packet_from {Args} {Row} {Reply} packets n id is = look (slice_get packets n) is
+  where
+    look : (o : Option (Packet Args Row Reply)) → option_map (λ p. p.from) o ≡ Some id → (p : Packet Args Row Reply) × (o ≡ Some p) × (p.from ≡ id)
+    look None is = absurd (cc)
+    look (Some p) is = (p, refl, same_Some p.from id is)
 
 module _ {Args Row Reply : Type 0} (packets : List (Packet Args Row Reply)) (name : PacketName) where
   -- so many of the first packets are the sender's, and none of them has the name
@@ -26,15 +35,12 @@ module _ {Args Row Reply : Type 0} (packets : List (Packet Args Row Reply)) (nam
   pub at_first : Counted 0 0
   at_first = record { number = refl; bound = omega arith; none = λ number less is. omega (arith, less) }
 
-  module _ (at before : ℕ) (so_far : Counted at before) (within : at < length packets) (d : Packet Args Row Reply) where
-    abbrev this : Packet Args Row Reply
-    this = get_or packets at d
-
-    there : slice_get packets at ≡ Some this
-    there = slice_get-get_or packets at d within
-
+  module _ (at before : ℕ) (so_far : Counted at before) (this : Packet Args Row Reply) (there : slice_get packets at ≡ Some this) where
     next : length (sent_by name.sender (take (at + 1) packets)) ≡ before + cond (same_node this.from name.sender) 1 0
-    next = length-filter_more (λ p. same_node p.from name.sender) packets at d within ∙ ap (λ n. n + cond (same_node this.from name.sender) 1 0) (sym so_far.number)
+    next =
+        length-filter_more (λ p. same_node p.from name.sender) packets at this (slice_get_within packets at this there)
+        ∙ ap (λ (p : Packet Args Row Reply). length (sent_by name.sender (take at packets)) + cond (same_node p.from name.sender) 1 0) (get_or_from_slice_get packets at this this there)
+        ∙ ap (λ n. n + cond (same_node this.from name.sender) 1 0) (sym so_far.number)
 
     no_more : (IsNamed packets name at → ⊥) → (number : ℕ) → number < at + 1 → IsNamed packets name number → ⊥
     no_more never number less is = elim (cases_lt number at) [
@@ -44,7 +50,7 @@ module _ {Args Row Reply : Type 0} (packets : List (Packet Args Row Reply)) (nam
 
     -- its name, where the packet has one
     is_this : (p : Packet Args Row Reply) → slice_get packets at ≡ Some p → p ≡ this
-    is_this p h = sym (get_or_from_slice_get packets at p d h)
+    is_this p h = same_Some p this (sym h ∙ there)
 
     pub other_sender : same_node this.from name.sender ≡ false → Counted (at + 1) before
     other_sender other = record {

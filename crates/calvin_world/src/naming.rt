@@ -5,7 +5,7 @@ ghost use Rattle.calvin_world.specs.Names.{IsNamed};
 use crate::world::World;
 use calvin_app::App;
 use calvin_lock::Locks;
-use calvin_node_packets::Packet;
+use calvin_node_packets::Outbox;
 use calvin_store::Rows;
 use calvin_types::NodeId;
 
@@ -28,15 +28,12 @@ impl<A: App + Drop, L: Locks + Drop, S: Rows<A::Row> + Drop> World<A, L, S> {
 }
 
 /// The number of the packet with a name, among packets in the order in which they were sent.
-fn number_of<Args, Row, Reply>(
-    packets: &[Packet<Args, Row, Reply>],
-    name: PacketName,
-) -> Option<usize>
-    ensures { MatchOption result ((number : ℕ) → IsNamed packets.now name number → ⊥) (IsNamed packets.now name) }
+fn number_of<A: App>(packets: &Outbox<A>, name: PacketName) -> Option<usize>
+    ensures { MatchOption result ((number : ℕ) → IsNamed packets.now.packets name number → ⊥) (IsNamed packets.now.packets name) }
 {
     let mut before = 0;
     for at in 0..packets.len() {
-        if packets[at].from == name.sender {
+        if packets.sender(at) == name.sender {
             if before == name.number {
                 return Some(at);
             }

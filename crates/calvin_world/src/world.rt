@@ -14,7 +14,7 @@ use crate::event::{Event, Outcome};
 use calvin_app::{App, Computed, Job};
 use calvin_lock::{Locks, QueueLocks};
 use calvin_node::{Act, Node};
-use calvin_node_packets::{Address, Outbox, Packet};
+use calvin_node_packets::{Address, Outbox};
 use calvin_store::{ColdRows, Rows};
 use calvin_types::{Config, Fault, Key, NodeId, Place};
 use std::alloc::Global;
@@ -74,10 +74,10 @@ impl<A: App + Drop, L: Locks + Drop, S: Rows<A::Row> + Drop> World<A, L, S> {
     }
 
     /// Every packet that was ever sent, in the order in which they were sent.
-    pub fn packets(&self) -> &[Packet<A::Args, A::Row, A::Reply>]
-        ensures { result.now ≡ self.now.packets }
+    pub fn packets(&self) -> &Outbox<A>
+        ensures { result.now.packets ≡ self.now.packets }
     {
-        self.packets.packets()
+        &self.packets
     }
 
     /// All nodes, replica by replica.
@@ -230,11 +230,10 @@ impl<A: App + Drop, L: Locks + Drop, S: Rows<A::Row> + Drop> World<A, L, S> {
     fn deliver(&mut self, number: usize) -> Result<(), Fault>
         ensures { SettledStep A.meaning self.old (Deliver number) (outcome_of result) self.new }
     {
-        let packets = self.packets.packets();
-        if number >= packets.len() {
+        let Some(to) = self.packets.address(number) else {
             return Err(Fault::NoPacket);
-        }
-        let Address::AtNode(id) = packets[number].to else {
+        };
+        let Address::AtNode(id) = to else {
             return Err(Fault::NotMine);
         };
         let Some(at) = self.index(id) else {

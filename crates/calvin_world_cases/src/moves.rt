@@ -2,7 +2,7 @@
 use crate::checks::{holds, same};
 use calvin_app::Kv;
 use calvin_edge::{MemorySink, MemorySource};
-use calvin_node_packets::Content;
+use calvin_node_packets::Sent;
 use calvin_sim::{Simulated, sim};
 use calvin_sim_events::{Restarts, Schedule};
 use calvin_store::Rows;
@@ -69,21 +69,20 @@ fn ends_with(rt: &impl Abort, world: &KvWorld, first: Option<u64>, second: Optio
 
 /// Whether a node sent a reply for a place.
 fn replied(world: &KvWorld, id: NodeId, place: Place) -> bool {
-    for packet in world.packets() {
-        if let Content::Replies(at, ..) = &packet.content {
-            if packet.from == id && *at == place {
-                return true;
-            }
-        }
-    }
-    false
+    let packets = world.packets();
+    (0..packets.len()).any(|number| {
+        number < packets.len()
+            && packets.sender(number) == id
+            && packets.reply(number).is_some_and(|reply| reply.0 == place)
+    })
 }
 
 /// Whether a node sent the rows that it read for a place.
 fn served(world: &KvWorld, id: NodeId, place: Place) -> bool {
-    for packet in world.packets() {
-        if let Content::Reads(at, _) = &packet.content {
-            if packet.from == id && *at == place {
+    let packets = world.packets();
+    for number in 0..packets.len() {
+        if let Some(Sent::Reads(at, _)) = packets.sent(number) {
+            if number < packets.len() && packets.sender(number) == id && at == place {
                 return true;
             }
         }

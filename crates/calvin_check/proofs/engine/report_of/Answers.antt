@@ -1,18 +1,12 @@
--- A packet fits in memory; and what is told is told of the world that the events lead to.
-use denote.Memory.{lone}
+-- What is told is told of the world that the events lead to.
 use Rattle.std.proofs.Common.{true, map, ap, subst, ◌∙◌, None}
 use Rattle.std.specs.Prelude.{option_map, string_bytes}
 use Rattle.calvin_order.specs.Configs.{config_of}
-use Rattle.calvin_node_packets.proofs.PacketSizes.{packet_of}
 use Rattle.calvin_script_events.specs.EventForms.{event_of}
 use Rattle.calvin_world.specs.SettledWorlds.{SettledLeads}
 use Rattle.calvin_check.specs.Checks.{are_expected}
 use Rattle.calvin_check.proofs.Telling.{told_text, told_lines}
 use Rattle.calvin_check.proofs.engine.report_of.Goals as goal
-
-pub drop-world-inside-requires-in_err-run_events-2-room-T-Destruct :
-    goal.drop-world-inside-requires-in_err-run_events-2-room-T-Destruct
-drop-world-inside-requires-in_err-run_events-2-room-T-Destruct g c κs within = packet_of (lone g.row.A-Args.mir) (lone g.row.A-Row.mir) (lone g.row.A-Reply.mir) g.met.A.App.work_fits
 
 pub returns-clause-told : goal.returns-clause-told
 returns-clause-told g c =

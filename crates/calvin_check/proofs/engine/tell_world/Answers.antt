@@ -1,21 +1,13 @@
--- A packet fits in memory; and the lines are those of the world, one after another.
-use denote.Memory.{lone}
+-- The lines are those of the world, one after another.
 use Rattle.std.proofs.Common.{◌≡◌, ◌∷◌, [], ◌++◌, Some, map, ap, sym, subst, ◌∙◌}
 use Rattle.std.specs.Prelude.{IfOk, option_map, string_bytes}
 use Rattle.std.specs.FinMap.{entries}
 use Rattle.calvin_text.specs.Texts.{line, finished_at}
-use Rattle.calvin_node_packets.proofs.PacketSizes.{packet_of}
 use Rattle.calvin_report.specs.declared.replies.Epochs.TheVariants.{All}
 use Rattle.calvin_report.specs.Replies.{replied, of_epochs, reply_lines}
 use Rattle.calvin_check.specs.Checks.{are_lines, are_expected, answer_lines}
 use Rattle.calvin_check.proofs.Telling.{anyway}
 use Rattle.calvin_check.proofs.engine.tell_world.Goals as goal
-
-pub packets-requires : goal.packets-requires
-packets-requires g c = packet_of (lone g.row.A-Args.mir) (lone g.row.A-Row.mir) (lone g.row.A-Reply.mir) g.met.A.App.work_fits
-
-pub replies_of-requires : goal.replies_of-requires
-replies_of-requires g c = packet_of (lone g.row.A-Args.mir) (lone g.row.A-Row.mir) (lone g.row.A-Reply.mir) g.met.A.App.work_fits
 
 pub returns-in-None-clause-told : goal.returns-in-None-clause-told
 returns-in-None-clause-told g c =

@@ -10,7 +10,7 @@ not_true e = cc
 
 pub returns-in-Ok-note_all-clause-listed : goal.returns-in-Ok-note_all-clause-listed
 returns-in-Ok-note_all-clause-listed g c =
-    indexed_after g.A.App.meaning c.args.book.now c.apply.new.self c.in-Some.event c.args.senders.now c.requires.listed c.in-Ok.ensures.ok c.world-in-Ok.result.now c.world-in-Ok.ensures.after c.packets.result.now c.packets.ensures c.note_all.new.self c.in-Ok-note_all.ensures.listed
+    indexed_after g.A.App.meaning c.args.book.now c.apply.new.self c.in-Some.event c.args.senders.now c.requires.listed c.in-Ok.ensures.ok c.world-in-Ok.result.now c.world-in-Ok.ensures.after c.packets.result.now.packets c.packets.ensures c.note_all.new.self c.in-Ok-note_all.ensures.listed
 
 pub returns-in_default-fault : goal.returns-in_default-fault
 returns-in_default-fault g c = record {

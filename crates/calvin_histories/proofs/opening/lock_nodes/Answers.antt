@@ -1,24 +1,19 @@
 -- The packets' senders are nodes; in the end all events happened.
 use Rattle.std.proofs.Common.{length, sym, ap, subst, ◌∙◌, arith}
-use denote.Memory.{lone}
 use Rattle.calvin_order.specs.Configs.{Config}
-use Rattle.calvin_node_packets.proofs.PacketSizes.{packet_of}
 use Rattle.calvin_world.specs.Worlds.{WorldState}
 use Rattle.calvin_book.specs.Books.{world_after}
 use Rattle.calvin_histories.specs.Positions.{AreThere, AreNamed}
 use Rattle.calvin_histories.proofs.Replaying.{senders_there, replayed_all}
 use Rattle.calvin_histories.proofs.opening.lock_nodes.Goals as goal
 
-pub packets-requires : goal.packets-requires
-packets-requires g c = packet_of (lone g.row.A-Args.mir) (lone g.row.A-Row.mir) (lone g.row.A-Reply.mir) g.met.A.App.work_fits
-
 pub names_of-requires : goal.names_of-requires
-names_of-requires g c = (
-  packet_of (lone g.row.A-Args.mir) (lone g.row.A-Row.mir) (lone g.row.A-Reply.mir) g.met.A.App.work_fits,
-  (let log = c.args.book.now in
-      subst (λ (d : Config). AreThere d.replicas d.partitions c.packets.result.now) c.requires.config
-      (subst (λ packets. AreThere log.config.replicas log.config.partitions packets) (sym c.packets.ensures) (senders_there g.A.App.meaning g.met.A.App.lawful.writes_within_the_sets log.config log.events c.world.result.now c.world.ensures.run))),
-)
+names_of-requires g c =
+    let log = c.args.book.now in
+    record {
+      there = subst (λ (d : Config). AreThere d.replicas d.partitions c.packets.result.now.packets) c.requires.config
+          (subst (λ packets. AreThere log.config.replicas log.config.partitions packets) (sym c.packets.ensures) (senders_there g.A.App.meaning g.met.A.App.lawful.writes_within_the_sets log.config log.events c.world.result.now c.world.ensures.run));
+    }
 
 pub happen_again-requires-clause-names : goal.happen_again-requires-clause-names
 happen_again-requires-clause-names g c =

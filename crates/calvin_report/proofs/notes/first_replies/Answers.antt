@@ -27,7 +27,7 @@ unfolding none
 loop-i-preserved-then-not-is_past g c =
     let notes = c.args.notes.now in
     let i = c.loop-i.i in
-    told_again c.args.packets.now notes i (get_or notes i none) (slice_get-get_or notes i none c.loop-i-test.true) (c.requires.each i none c.loop-i-test.true)
+    told_again c.args.packets.now.packets notes i (get_or notes i none) (slice_get-get_or notes i none c.loop-i-test.true) (c.requires.each i none c.loop-i-test.true)
     c.requires.order c.loop-i-test.true c.loop-i.replies.items c.loop-i.last c.loop-i.invariant (sym c.is_past.ensures ∙ c.if-not-is_past.true)
 
 pub loop-i-preserved-in_default : goal.loop-i-preserved-in_default
@@ -40,16 +40,16 @@ loop-i-preserved-in_default g c =
 pub loop-i-preserved : goal.loop-i-preserved
 unfolding none
 loop-i-preserved g c =
-    let packets = c.args.packets.now in
+    let packets = c.args.packets.now.packets in
     let notes = c.args.notes.now in
     let i = c.loop-i.i in
     let n = get_or notes i none in
     let note = c.requires.each i none c.loop-i-test.true in
     let reply = sym (ap option_to_list c.in-Some.is) ∙ c.reply_of.ensures ∙ note.1 in
     let all = c.in_ok-push.ensures.items ∙ ap (λ es. c.loop-i.replies.items ++ es) reply in
-    subst (λ (es : ByPlace g.row.R.Denot). Told packets notes es (Some n.0) (i + 1)) (sym all)
+    subst (λ (es : ByPlace g.row.A-Reply.Denot). Told packets notes es (Some n.0) (i + 1)) (sym all)
     (told_first packets notes i n (slice_get-get_or notes i none c.loop-i-test.true) note c.loop-i.replies.items c.loop-i.last c.loop-i.invariant (sym c.is_past.ensures ∙ c.if-not-is_past.false))
 
 pub returns-clause-ok : goal.returns-clause-ok
 returns-clause-ok g c =
-    c.loop-i.invariant.so_far ∙ ap (λ (ns : List (Place × ℕ)). entries (from_entries {R = place_cmp} (noted c.args.packets.now ns))) (take_all c.loop-i.i c.args.notes.now c.loop-i-test.false)
+    c.loop-i.invariant.so_far ∙ ap (λ (ns : List (Place × ℕ)). entries (from_entries {R = place_cmp} (noted c.args.packets.now.packets ns))) (take_all c.loop-i.i c.args.notes.now c.loop-i-test.false)

@@ -6,6 +6,6 @@ use Rattle.calvin_report.proofs.notes.notes_of.Given as goal
 
 abbrev pub invariant-loop-number : goal.invariant-loop-number
 invariant-loop-number g l = record {
-  so_far : noted l.packets l.notes.items ≡ flat_map (λ p. reply_in p.content) (take l.number l.packets);
-  each : All (IsNote l.packets) l.notes.items;
+  so_far : noted l.packets.packets l.notes.items ≡ flat_map (λ p. reply_in p.content) (take l.number l.packets.packets);
+  each : All (IsNote l.packets.packets) l.notes.items;
 }

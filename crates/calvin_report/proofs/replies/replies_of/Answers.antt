@@ -14,17 +14,20 @@ pub first_replies-requires : goal.first_replies-requires
 first_replies-requires g c =
     let notes = c.in_ok-notes.notes.items in
     let after = c.sort_by_key.new.self.items in
-    let each = All-permutation (IsNote c.args.packets.now) notes after c.in_ok-sort_by_key.ensures.permutation c.in_ok-notes.ensures.each in
+    let each = All-permutation (IsNote c.args.packets.now.packets) notes after c.in_ok-sort_by_key.ensures.permutation c.in_ok-notes.ensures.each in
     let order = c.in_ok-sort_by_key.ensures.sorted (λ (n : Place × ℕ). n.0) (answers_always _ _ _ (λ f a r g h. search rules)) in
-    (search rules, (subst (All (IsNote c.args.packets.now)) (sym c.as_slice.ensures.value) each, subst AreInOrder (sym c.as_slice.ensures.value) order))
+    record {
+      each = subst (All (IsNote c.args.packets.now.packets)) (sym c.as_slice.ensures.value) each;
+      order = subst AreInOrder (sym c.as_slice.ensures.value) order;
+    }
 
 pub returns-clause-ok : goal.returns-clause-ok
 returns-clause-ok g c =
-    let packets = c.args.packets.now in
+    let packets = c.args.packets.now.packets in
     let notes = c.in_ok-notes.notes.items in
     let after = c.sort_by_key.new.self.items in
     let each = All-permutation (IsNote packets) notes after c.in_ok-sort_by_key.ensures.permutation c.in_ok-notes.ensures.each in
     let stable = c.in_ok-sort_by_key.ensures.stable (λ (n : Place × ℕ). n.0) (answers_always _ _ _ (λ f a r g h. search rules)) in
     let told = ap (λ (ns : List (Place × ℕ)). entries (from_entries {R = place_cmp} (noted packets ns))) c.as_slice.ensures.value ∙ same_first packets notes after c.in_ok-notes.ensures.each each stable
-    ∙ ap (λ (es : ByPlace g.row.R.Denot). entries (from_entries {R = place_cmp} es)) c.in_ok-notes.ensures.noted in
-    subst (λ (es : ByPlace g.row.R.Denot). IfOk c.first_replies.result (λ replies. replies.items ≡ es)) told c.first_replies.ensures.ok
+    ∙ ap (λ (es : ByPlace g.row.A-Reply.Denot). entries (from_entries {R = place_cmp} es)) c.in_ok-notes.ensures.noted in
+    subst (λ (es : ByPlace g.row.A-Reply.Denot). IfOk c.first_replies.result (λ replies. replies.items ≡ es)) told c.first_replies.ensures.ok

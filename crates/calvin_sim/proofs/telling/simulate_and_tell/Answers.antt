@@ -1,5 +1,3 @@
-use denote.Memory.{lone}
-use Rattle.calvin_node_packets.proofs.PacketSizes.{packet_of}
 use Rattle.std.proofs.Common.{false, ◌++◌, ◌∙◌, None}
 use Rattle.calvin_script.specs.Scripts.{contents}
 use Rattle.calvin_report.specs.Reports.{is_lost, least_kept}
@@ -23,6 +21,3 @@ returns-clause-told g c =
       chosen = chosen.1;
       told = c.in_ok-text.ensures.text ∙ (λ i. told i ++ last i);
     }
-
-pub drop-world-inside-requires-in_err-text-2-room-T-Destruct : goal.drop-world-inside-requires-in_err-text-2-room-T-Destruct
-drop-world-inside-requires-in_err-text-2-room-T-Destruct g c κs within = packet_of (lone g.row.A-Args.mir) (lone g.row.A-Row.mir) (lone g.row.A-Reply.mir) g.met.A.App.work_fits

@@ -1,17 +1,9 @@
-use denote.Memory.{lone}
 use Rattle.std.proofs.Common.{◌++◌, ap, ◌∙◌}
 use Rattle.std.specs.FinMap.{entries}
-use Rattle.calvin_node_packets.proofs.PacketSizes.{packet_of}
 use Rattle.calvin_report.specs.declared.replies.Epochs.TheVariants.{UpTo}
 use Rattle.calvin_report.specs.Replies.{replied, of_epochs, reply_lines}
 use Rattle.calvin_text.specs.Texts.{finished_at}
 use Rattle.calvin_sim.proofs.telling.text_of.Goals as goal
-
-pub packets-requires : goal.packets-requires
-packets-requires g c = packet_of (lone g.row.A-Args.mir) (lone g.row.A-Row.mir) (lone g.row.A-Reply.mir) g.met.A.App.work_fits
-
-pub replies_of-requires : goal.replies_of-requires
-replies_of-requires g c = packet_of (lone g.row.A-Args.mir) (lone g.row.A-Row.mir) (lone g.row.A-Reply.mir) g.met.A.App.work_fits
 
 pub returns-clause-text : goal.returns-clause-text
 returns-clause-text g c =

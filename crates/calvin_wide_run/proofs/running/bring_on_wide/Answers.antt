@@ -1,10 +1,9 @@
--- What is handed to the store may go to its threads; an entry and a packet fit in memory; how the list begins, and what is refused.
+-- What is handed to the store may go to its threads; an entry fits in memory; how the list begins, and what is refused.
 use denote.Memory.{lone}
 use denote.Param.Send.{param_send, param_sync, copied_send, copied_sync}
 use Rattle.std.proofs.Common.{◌*◌, sym, ap, subst, ◌∙◌}
 use Rattle.calvin_order.specs.Configs.{Config}
 use Rattle.calvin_world.proofs.SettledLaws.{config_in_code}
-use Rattle.calvin_node_packets.proofs.PacketSizes.{packet_of}
 use Rattle.calvin_histories.proofs.EntrySizes.{an_entry}
 use Rattle.calvin_wide_desk.specs.Stopping.{BeginWith}
 use Rattle.calvin_wide_run.specs.Running.{IsWideFault}
@@ -61,9 +60,6 @@ open-requires-sync-A-Reply g c κs within = copied_sync 7 _ c.type_bounds.sync-A
 
 pub open-requires-after_bounds : goal.open-requires-after_bounds
 open-requires-after_bounds g c κs within = (an_entry (lone g.row.A-Args.mir) (lone g.row.A-Row.mir) (lone g.row.A-Reply.mir) (g.met.A.App g.world.𝓛 g.world.𝓜 g.world.𝓡 ((λ s x. x), (λ x. x), (λ x. x), λ x. x)).work_fits, (c.requires.opened, (c.requires.nodes, c.requires.config)))
-
-pub drop-book-inside-requires-in-Err-room-T-Destruct : goal.drop-book-inside-requires-in-Err-room-T-Destruct
-drop-book-inside-requires-in-Err-room-T-Destruct g c κs within = packet_of (lone g.row.A-Args.mir) (lone g.row.A-Row.mir) (lone g.row.A-Reply.mir) (g.met.A.App g.world.𝓛 g.world.𝓜 g.world.𝓡 ((λ s x. x), (λ x. x), (λ x. x), λ x. x)).work_fits
 
 pub returns-in-Err-clause-only : goal.returns-in-Err-clause-only
 returns-in-Err-clause-only g c = opened_only c.args.workers c.in-Err.fault c.requires.some_worker c.requires.workers_at_most c.in-Err.ensures.only

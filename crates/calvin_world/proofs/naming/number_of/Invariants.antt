@@ -3,4 +3,4 @@ use Rattle.calvin_world.proofs.Named.{Counted}
 use Rattle.calvin_world.proofs.naming.number_of.Given as goal
 
 abbrev pub invariant-loop-at : goal.invariant-loop-at
-invariant-loop-at g l = Counted l.packets l.name l.at l.before
+invariant-loop-at g l = Counted l.packets.packets l.name l.at l.before

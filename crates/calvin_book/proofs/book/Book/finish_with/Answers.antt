@@ -1,8 +1,6 @@
 -- The place is finished, and its event is the last one; or nothing changed.
-use Rattle.std.proofs.Common.{◌≡◌, inl, Ok, Err, refl, sym, ap, subst, ◌∙◌}
+use Rattle.std.proofs.Common.{◌≡◌, ℕ, [], ◌∷◌, ◌++◌, inl, Ok, Err, refl, sym, ap, subst, ◌∙◌}
 use Rattle.std.proofs.lemmas.Result.{err_from_is_err_and}
-use denote.Memory.{lone}
-use Rattle.calvin_node_packets.proofs.PacketSizes.{packet_of}
 use Rattle.calvin_node_acts.specs.declared.act.Act.TheVariants.{Finish}
 use Rattle.calvin_world.specs.declared.event.Event.TheVariants.{At}
 use Rattle.calvin_world.specs.Jobs.{job_of, IsNotFinished}
@@ -38,15 +36,13 @@ returns-in_err-finish_with-clause-only g c = λ fault is.
     (subst (λ (w : WorldState g.row.A-Args.Denot g.row.A-Row.Denot g.row.A-Reply.Denot). IsNotFinished now.config j (node_at w c.args.id) c.in_err-finish_with.field-0.0) world
     (subst (λ k. IsNotFinished k j (node_at p.world c.args.id) c.in_err-finish_with.field-0.0) (ap (λ l. l.config) c.self.view_is) c.in_err-finish_with.ensures.1)))
 
-pub packets-requires : goal.packets-requires
-packets-requires g c = packet_of (lone g.row.A-Args.mir) (lone g.row.A-Row.mir) (lone g.row.A-Reply.mir) g.met.A.App.work_fits
-
 pub invariant_of-self-2 : goal.invariant_of-self-2
 invariant_of-self-2 g c =
     let p = c.self.inside in
     ok_kept g.A.App.meaning p.world p.events.items c.self.invariant.0 p.sent.items c.self.invariant.1 c.reserve.new.self.items c.reserve-2.new.self.items c.reserve.ensures.items c.reserve-2.ensures.items c.finish_with.new.self
     g.met.A.App.lawful.writes_within_the_sets (At c.args.id (Finish c.args.computed.now.job.place)) (At c.args.id (Finish c.args.computed.now.job.place)) refl c.push_reserved.new.self.items c.push_reserved.ensures.items (c.in_ok-finish_with.ensures.1)
-    c.packets.result.now c.packets.ensures c.push_reserved-2.new.self.items c.push_reserved-2.ensures.items
+    c.packets.result.now.packets c.packets.ensures c.push_reserved-2.new.self.items
+    (c.push_reserved-2.ensures.items ∙ ap (λ (n : ℕ). c.reserve-2.new.self.items ++ n ∷ []) c.len.ensures)
 
 pub returns-clause-due : goal.returns-clause-due
 returns-clause-due g c =

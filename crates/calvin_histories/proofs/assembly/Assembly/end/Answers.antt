@@ -2,14 +2,9 @@
 use Rattle.std.proofs.Common.{◌*◌, length, Some, refl, sym, ap, subst, ◌∙◌, arith}
 use lib.ListN.{get_or}
 use Rattle.std.proofs.lemmas.Option.{slice_get-get_or}
-use denote.Memory.{lone}
-use Rattle.calvin_node_packets.proofs.PacketSizes.{packet_of}
 use Rattle.calvin_book.specs.Books.{IsRun}
 use Rattle.calvin_histories.proofs.Assembling.{its_id, taken_more, taken_all, is_assembled, is_stuck}
 use Rattle.calvin_histories.proofs.assembly.Assembly.end.Goals as goal
-
-pub drop-book-inside-requires-then-entry-len-2-room-T-Destruct : goal.drop-book-inside-requires-then-entry-len-2-room-T-Destruct
-drop-book-inside-requires-then-entry-len-2-room-T-Destruct g c κs within = packet_of (lone g.row.A-Args.mir) (lone g.row.A-Row.mir) (lone g.row.A-Reply.mir) g.met.A.App.work_fits
 
 pub returns-then-entry-len-clause-err : goal.returns-then-entry-len-clause-err
 returns-then-entry-len-clause-err g c =

@@ -1,9 +1,7 @@
 -- Some entries more are taken; at the end none fits.
 use Rattle.std.proofs.Common.{◌≡◌, Ok, ap, subst, ◌∙◌}
 use Rattle.std.specs.Prelude.{IfOk, IfErr}
-use denote.Memory.{lone}
 use Rattle.calvin_order.specs.Configs.{Config}
-use Rattle.calvin_node_packets.proofs.PacketSizes.{packet_of}
 use Rattle.calvin_histories.specs.Histories.{IsUnassembled}
 use Rattle.calvin_histories.proofs.assembly.Assembly.run.Goals as goal
 
@@ -15,9 +13,3 @@ returns-in-Ok-false-clause-config g c = subst (λ (config : Config). IfOk c.end.
 
 pub returns-in-Ok-false-clause-err : goal.returns-in-Ok-false-clause-err
 returns-in-Ok-false-clause-err g c = subst (λ (config : Config). IfErr c.end.result (IsUnassembled g.A.App.meaning config c.args.histories.now)) (c.in-Ok-false.ensures.config.1 ∙ c.loop.invariant.config.1) c.end.ensures.err
-
-pub drop-assembly-requires-in-Err-2-room-T-Destruct : goal.drop-assembly-requires-in-Err-2-room-T-Destruct
-drop-assembly-requires-in-Err-2-room-T-Destruct g c κs within = packet_of (lone g.row.A-Args.mir) (lone g.row.A-Row.mir) (lone g.row.A-Reply.mir) g.met.A.App.work_fits
-
-pub drop-assembly-requires-4-room-T-Destruct : goal.drop-assembly-requires-4-room-T-Destruct
-drop-assembly-requires-4-room-T-Destruct g c κs within = packet_of (lone g.row.A-Args.mir) (lone g.row.A-Row.mir) (lone g.row.A-Reply.mir) g.met.A.App.work_fits

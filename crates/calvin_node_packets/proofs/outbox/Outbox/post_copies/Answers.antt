@@ -2,7 +2,7 @@ use Rattle.std.proofs.Common.{◌≤◌, ◌++◌, length, take, ap, subst, ◌�
 use Rattle.std.proofs.lemmas.List.{take_all}
 use Rattle.std.proofs.Math.Seq.{take-append_seam}
 use Rattle.calvin_node_packets.specs.Packets.{to_each}
-use Rattle.calvin_node_packets.proofs.Sent.{each_more_sent}
+use Rattle.calvin_node_packets.proofs.Copies.{each_more_sent}
 use Rattle.calvin_node_packets.proofs.outbox.Outbox.post_copies.Goals as goal
 
 pub returns-in_err-post_copy-clause-kept : goal.returns-in_err-post_copy-clause-kept

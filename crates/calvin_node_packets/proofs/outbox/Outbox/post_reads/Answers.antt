@@ -4,7 +4,7 @@ use Rattle.std.proofs.lemmas.List.{take_all}
 use Rattle.calvin_node_packets.specs.declared.packet.Content.TheVariants.{Reads}
 use Rattle.calvin_node_packets.specs.Packets.{to_each}
 use Rattle.calvin_node_packets.proofs.PacketSizes.{packet_of}
-use Rattle.calvin_node_packets.proofs.Sent.{each_more_sent}
+use Rattle.calvin_node_packets.proofs.Copies.{each_more_sent}
 use Rattle.calvin_node_packets.proofs.outbox.Outbox.post_reads.Goals as goal
 
 pub push_reserved-requires : goal.push_reserved-requires

@@ -1,6 +1,6 @@
 use Rattle.std.proofs.Common.{length, take, ap, ◌∙◌}
 use Rattle.std.proofs.Math.Seq.{take-append_seam}
-use Rattle.calvin_node_packets.proofs.Sent.{one_more_sent}
+use Rattle.calvin_node_packets.proofs.Copies.{one_more_sent}
 use Rattle.calvin_node_packets.proofs.outbox.Outbox.post_to_all.Goals as goal
 
 pub returns-in_err-post_copy-clause-kept : goal.returns-in_err-post_copy-clause-kept

@@ -1,7 +1,7 @@
 use denote.Memory.{lone}
 use Rattle.std.proofs.Common.{sym, ap, arith, ◌∙◌}
 use Rattle.calvin_node_packets.proofs.PacketSizes.{packet_of}
-use Rattle.calvin_node_packets.proofs.Sent.{warm_more, warm_same}
+use Rattle.calvin_node_packets.proofs.Copies.{warm_more, warm_same}
 use Rattle.calvin_node_packets.proofs.outbox.Outbox.post_warm.Goals as goal
 use Rattle.calvin_node_packets.proofs.outbox.Outbox.post_warm.Goals.{then-is_participant, else-is_participant}
 

@@ -1,7 +1,6 @@
--- What a thread is handed may go to it; an entry and a packet fit in memory.
+-- What a thread is handed may go to it; an entry fits in memory.
 use denote.Memory.{lone}
 use denote.Param.Send.{param_send, param_sync, copied_send, copied_sync}
-use Rattle.calvin_node_packets.proofs.PacketSizes.{packet_of}
 use Rattle.calvin_histories.proofs.EntrySizes.{an_entry}
 use Rattle.calvin_wide.proofs.cluster.WideCluster.open.Goals as goal
 
@@ -61,6 +60,3 @@ drop-opened-inside-requires-room-E-Destruct g c κs within = an_entry (lone g.ro
 
 pub drop-opened-inside-requires-then-workers-gt-MOST_WORKERS-room-E-Destruct : goal.drop-opened-inside-requires-then-workers-gt-MOST_WORKERS-room-E-Destruct
 drop-opened-inside-requires-then-workers-gt-MOST_WORKERS-room-E-Destruct g c κs within = an_entry (lone g.row.A-Args.mir) (lone g.row.A-Row.mir) (lone g.row.A-Reply.mir) (g.met.A.App g.world.𝓛 g.world.𝓜 g.world.𝓡 ((λ s x. x), (λ x. x), (λ x. x), λ x. x)).work_fits
-
-pub drop-book-inside-requires-in-Ok-1-room-T-Destruct : goal.drop-book-inside-requires-in-Ok-1-room-T-Destruct
-drop-book-inside-requires-in-Ok-1-room-T-Destruct g c κs within = packet_of (lone g.row.A-Args.mir) (lone g.row.A-Row.mir) (lone g.row.A-Reply.mir) (g.met.A.App g.world.𝓛 g.world.𝓜 g.world.𝓡 ((λ s x. x), (λ x. x), (λ x. x), λ x. x)).work_fits

@@ -1,7 +1,6 @@
 -- The history is written whole.
 use denote.Memory.{lone}
 use Rattle.std.proofs.Common.{◌∙◌, refl, sym, ap}
-use Rattle.calvin_node_packets.proofs.PacketSizes.{packet_of}
 use Rattle.calvin_histories.proofs.EntrySizes.{an_entry}
 use Rattle.calvin_histories.specs.Histories.{id_of}
 use Rattle.calvin_wide_desk.proofs.desk.WideDesk.new.Goals as goal
@@ -14,10 +13,6 @@ write_all-requires-after_bounds g c κs within = (an_entry (lone g.row.A-Args.mi
 
 pub drop-pen-inside-requires-room-E-Destruct : goal.drop-pen-inside-requires-room-E-Destruct
 drop-pen-inside-requires-room-E-Destruct g c κs within = an_entry (lone g.row.A-Args.mir) (lone g.row.A-Row.mir) (lone g.row.A-Reply.mir) g.met.A.App.work_fits
-
-pub drop-locked-inside-requires-then-not-write_all-28-room-T-Destruct :
-    goal.drop-locked-inside-requires-then-not-write_all-28-room-T-Destruct
-drop-locked-inside-requires-then-not-write_all-28-room-T-Destruct g c κs within = packet_of (lone g.row.A-Args.mir) (lone g.row.A-Row.mir) (lone g.row.A-Reply.mir) g.met.A.App.work_fits
 
 pub invariant_of-result : goal.invariant_of-result
 invariant_of-result g c =

@@ -1,7 +1,0 @@
--- A packet fits in memory.
-use denote.Memory.{lone}
-use Rattle.calvin_node_packets.proofs.PacketSizes.{packet_of}
-use Rattle.calvin_cluster_desk.proofs.office.Office.is_for_a_node.Goals as goal
-
-pub packets-requires : goal.packets-requires
-packets-requires g c = packet_of (lone g.row.A-Args.mir) (lone g.row.A-Row.mir) (lone g.row.A-Reply.mir) g.met.A.App.work_fits

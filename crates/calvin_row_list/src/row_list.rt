@@ -1,0 +1,89 @@
+//! Rows that stand in a list of just the room that they need.
+ghost use Rattle.std.specs.Prelude.{◌≡◌, ◌≤◌, max, IsOk, OnOk, OnErr, IsOkUnless};
+ghost use Rattle.std.specs.FinMap as map;
+
+use calvin_app::View;
+use calvin_types::{Fault, Key};
+use std::alloc::Global;
+use std::marker::Model;
+
+/// Rows of at most sixteen keys, which contracts see as a finite map. They stand in memory of their own, for which room is
+/// reserved, so that they take no more than they need, where a `View` has places for sixteen.
+#[derive(Drop)]
+pub struct RowList<Row> {
+    entries: Vec<(Key, Row)>,
+}
+
+impl<Row> Model for RowList<Row> {
+    ghost use Rattle.std.specs.Prelude.{vec_capacity};
+    ghost use Rattle.calvin_app.specs.Entries.{shown};
+    ghost use Rattle.calvin_row_list.specs.Listing.{Listing, IsListing, coded_listing};
+
+    ghost Value = { Listing Row };
+
+    ghost coded = { coded_listing Row.code };
+
+    ghost view = { λ l. record { rows = shown l.entries.items; room = vec_capacity l.entries } };
+
+    ghost invariant = { λ l. IsListing l.entries.items };
+}
+
+impl<Row: Copy> RowList<Row> {
+    /// No rows, and room for none.
+    pub fn new(alloc: Global) -> RowList<Row>
+        ensures { result ≡ record { rows = map.empty; room = 0 } }
+    {
+        RowList {
+            entries: Vec::new(alloc),
+        }
+    }
+
+    /// Room for the rows of so many keys, those that are there among them, and no more than that where there was less.
+    /// Refused with `OutOfMemory` where a growth was refused.
+    pub fn reserve(&mut self, keys: usize) -> Result<(), Fault>
+        ensures ok { OnOk result (self.new ≡ record self.old { room = max keys self.old.room }) }
+        ensures err { OnErr result (self.new ≡ self.old) }
+        ensures only { IsOkUnless result Fault.OutOfMemory }
+        ensures succeeds { keys ≤ self.old.room → IsOk result }
+    {
+        let more = keys.saturating_sub(self.entries.len());
+        self.entries.reserve_exact(more)?;
+        Ok(())
+    }
+
+    /// Puts these rows in place of those that are there. There is room for them.
+    pub fn set(&mut self, rows: &View<Row>)
+        requires { map.len rows.now ≤ self.old.room }
+        ensures { self.new ≡ record self.old { rows = rows.now } }
+    {
+        self.entries.clear();
+        for i in 0..rows.len() {
+            self.entries.push_reserved(rows.at(i));
+        }
+    }
+
+    /// The row of a key, if it has one.
+    pub fn get(&self, key: &Key) -> Option<Row>
+        ensures { result ≡ map.get self.now.rows key.now }
+    {
+        for i in 0..self.entries.len() {
+            let (k, row) = self.entries[i];
+            if *key == k {
+                return Some(row);
+            }
+        }
+        None
+    }
+
+    /// The rows as a view.
+    pub fn view(&self) -> View<Row>
+        ensures { result ≡ self.now.rows }
+    {
+        let mut view = View::new();
+        for i in 0..self.entries.len() {
+            let (key, row) = self.entries[i];
+            view.put(key, row);
+        }
+        view
+    }
+}
