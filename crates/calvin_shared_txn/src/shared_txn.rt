@@ -40,9 +40,9 @@ impl<Args: Copy> SharedTxn<Args> {
         ensures ok { IfOk result (λ s. s ≡ txn.now) }
         ensures only { IsOkUnless result Fault.OutOfMemory }
     {
-        let mut requests = Vec::new(alloc);
-        requests.push(*txn)?;
-        let requests = Shared::new(alloc, requests)?;
+        let mut copied = Vec::with_capacity(alloc, 1)?;
+        copied.push_reserved(*txn);
+        let requests = Shared::new(alloc, copied)?;
         Ok(SharedTxn {
             requests,
             number: 0,
@@ -54,18 +54,5 @@ impl<Args: Copy> SharedTxn<Args> {
         ensures { result.now ≡ self.now }
     {
         &self.requests.as_slice()[self.number]
-    }
-
-    /// The same request, in the same memory, which gets one more owner. It takes none, and is refused with `OutOfMemory` only
-    /// where there are 2^63 - 1 owners.
-    pub fn share(&self) -> Result<SharedTxn<Args>, Fault>
-        ensures ok { IfOk result (λ s. s ≡ self.now) }
-        ensures only { IsOkUnless result Fault.OutOfMemory }
-    {
-        let requests = self.requests.share()?;
-        Ok(SharedTxn {
-            requests,
-            number: self.number,
-        })
     }
 }
