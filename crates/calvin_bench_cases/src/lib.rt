@@ -16,4 +16,6 @@ mod scarce_replica;
 #[cfg(test)]
 mod shown;
 #[cfg(test)]
+mod sizes;
+#[cfg(test)]
 mod two_partitions;

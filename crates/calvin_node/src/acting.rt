@@ -8,7 +8,7 @@ use crate::node::Node;
 use calvin_app::{Answer, App};
 use calvin_lock::Locks;
 use calvin_node_acts::Act;
-use calvin_node_packets::{Address, Content, Outbox, Packet};
+use calvin_node_packets::{Address, Outbox};
 use calvin_store::Rows;
 use calvin_types::{Fault, Place};
 
@@ -49,11 +49,8 @@ impl<A: App, L: Locks + Drop, S: Rows<A::Row> + Drop> Node<A, L, S> {
         }
         let mut answer = Answer::Changed;
         let name = self.scheduler.run(place, app, &mut answer)?;
-        outbox.push_reserved(Packet {
-            from: self.layer.id(),
-            to: Address::AtClient(name.0.client),
-            content: Content::Replies(place, name.0, name.1, answer),
-        });
+        let to = Address::AtClient(name.0.client);
+        outbox.push_answer(self.layer.id(), to, place, name.0, name.1, answer);
         Ok(())
     }
 }

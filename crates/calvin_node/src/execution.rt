@@ -15,7 +15,7 @@ use crate::node::Node;
 use calvin_app::{App, Computed, Job};
 use calvin_lock::Locks;
 use calvin_node_acts::post_served;
-use calvin_node_packets::{Address, Content, Outbox, Packet};
+use calvin_node_packets::{Address, Outbox};
 use calvin_order::{PendingRequests, is_woven};
 use calvin_sched::Scheduler;
 use calvin_store::Rows;
@@ -91,11 +91,9 @@ impl<A: App, L: Locks + Drop, S: Rows<A::Row> + Drop> Node<A, L, S> {
         }
         let answer = self.scheduler.finish(computed)?;
         let txn = &computed.job.txn;
-        outbox.push_reserved(Packet {
-            from: self.layer.id(),
-            to: Address::AtClient(txn.id.client),
-            content: Content::Replies(computed.job.place, txn.id, txn.attempt, answer),
-        });
+        let to = Address::AtClient(txn.id.client);
+        let place = computed.job.place;
+        outbox.push_answer(self.layer.id(), to, place, txn.id, txn.attempt, answer);
         Ok(())
     }
 
@@ -125,7 +123,8 @@ impl<A: App, L: Locks + Drop, S: Rows<A::Row> + Drop> Node<A, L, S> {
 
 /// The first of the merged requests, which is at a place, is admitted. It stays in the memory of the batch in which it was
 /// agreed upon. It is copied where its epoch is woven, as it would keep all requests of the epoch there, which lie in memory of
-/// this node alone, and where the owners of a batch can't be counted. Refused as `Scheduler::admit` is.
+/// this node alone, and where the owners of a batch can't be counted. One with no key here is passed over where it lies. Refused
+/// as `Scheduler::admit` is.
 fn admit_first<A: App, L: Locks + Drop, S: Rows<A::Row> + Drop>(
     scheduler: &mut Scheduler<A, L, S>,
     pending: &PendingRequests<A::Args>,
@@ -137,6 +136,9 @@ fn admit_first<A: App, L: Locks + Drop, S: Rows<A::Row> + Drop>(
     ensures did { Did (has_local_key scheduler.old.here txn.now) result (steps.admit scheduler.old.here place txn.now scheduler.old.scheduling) scheduler.old.scheduling scheduler.new.scheduling }
     ensures rest { scheduler.new ≡ record scheduler.old { scheduling = scheduler.new.scheduling } }
 {
+    if !scheduler.takes(place, txn) {
+        return scheduler.pass_over(place, txn);
+    }
     if is_woven(config, place.epoch) {
         return scheduler.admit(place, txn);
     }

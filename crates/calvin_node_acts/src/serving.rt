@@ -30,6 +30,6 @@ pub fn post_served<A: App, L: Locks + Drop, S: Rows<A::Row> + Drop>(
 {
     if let Some(turn) = scheduler.turn(place) {
         let others = turn.others(config, me.partition);
-        outbox.post_reads(me, place, &turn.served(), &others);
+        outbox.post_reads(me, place, turn.rows(), &others);
     }
 }

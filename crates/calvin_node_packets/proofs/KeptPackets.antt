@@ -1,25 +1,27 @@
 -- Packets that are kept without their rows, sets and answers are restored from the lists of these.
-use Rattle.std.proofs.Common.{◌≡◌, ℕ, zero, suc, ◌+◌, ◌-◌, ◌<◌, ◌≤◌, Bool, true, false, List, [], ◌∷◌, ◌++◌, length, map, take, Option, Some, None, slice_get, slice_set, refl, sym, ap, subst, ◌∙◌, arith}
-use Rattle.std.specs.Prelude.{⊤, slice_index_or}
+use Rattle.std.proofs.Common.{◌≡◌, ℕ, zero, suc, ◌+◌, ◌-◌, ◌<◌, ◌≤◌, true, false, List, [], ◌∷◌, ◌++◌, length, map, take, Option, Some, None, slice_get, slice_set, refl, sym, ap, subst, ◌∙◌, arith}
+use Rattle.std.specs.Prelude.{slice_index_or}
 use Rattle.std.specs.FinMap as finmap
-use Rattle.std.proofs.lemmas.Option.{none-some, same_Some, slice_get-map, slice_get-get_or, slice_get_past, slice_get_within}
-use Rattle.std.specs.Option.{option_map}
+use Rattle.std.proofs.lemmas.Option.{none-some, same_Some, slice_get-map, slice_get-get_or, slice_get_past, slice_get_within, get_or_from_slice_get}
+use Rattle.std.specs.Option.{option_map, option_and_then}
 use Rattle.std.proofs.Math.Seq.{take-append_seam}
 use Rattle.std.proofs.lemmas.List.{map-set, length-append, append-nil, get_or_append_left, get_or_push, get_or-take, length-take, length-map, map-append}
 use Rattle.calvin_types.specs.declared.key_set.Sets.{Sets}
 use Rattle.calvin_types.specs.declared.place.NodeId.{NodeId}
+use Rattle.calvin_types.specs.declared.place.Place.{Place}
+use Rattle.calvin_types.specs.declared.place.RequestId.{RequestId}
 use Rattle.calvin_app.specs.Rows.{Rows}
 use Rattle.calvin_app.specs.declared.answer.Answer.{Answer}
 use Rattle.calvin_app.specs.declared.answer.Answer.TheVariants.{Changed}
 use Rattle.calvin_node_packets.specs.declared.kept.Kept.{Kept}
 use Rattle.calvin_node_packets.specs.declared.kept.KeptContent.{KeptContent}
-use Rattle.calvin_node_packets.specs.declared.kept.KeptContent.TheVariants.{Letter, Told, BatchAsked, RowsAt, RowsAsked, SetsAt, AnswerAt}
+use Rattle.calvin_node_packets.specs.declared.kept.KeptContent.TheVariants as stored
 use Rattle.calvin_node_packets.specs.declared.packet.Content.{Content}
 use Rattle.calvin_node_packets.specs.declared.packet.Content.TheVariants.{Synod, Decided, AskBatch, Reads, AskReads, Warm, Replies}
 use Rattle.calvin_node_packets.specs.declared.packet.Packet.{Packet}
 use Rattle.calvin_node_packets.specs.declared.packet.Address.{Address}
 use Rattle.std.proofs.lemmas.Bool.{true≢false}
-use Rattle.calvin_node_packets.specs.Packets.{is_light, IsLent, CanBePut}
+use Rattle.calvin_node_packets.specs.Packets.{is_light, IsLent, CanBePut, answered}
 use Rattle.calvin_node_packets.specs.Keeping.{Lists, Counts, none, counts, is_plain, IsAt, with_it, AreKept, said, restored, kept_of, lists_with, lists_cut, Below}
 
 -- no less of each
@@ -30,26 +32,26 @@ record Within (few many : Counts) : Type 0 where
 
 module _ {Args : Type 0} where
   more_with : (c : Counts) (k : KeptContent Args) (all : Counts) → Within (with_it c k) all → Within c all
-  more_with c (Letter message) all h = h
-  more_with c (Told slot batch) all h = h
-  more_with c (BatchAsked slot) all h = h
-  more_with c (RowsAt place number) all h = record { rows = omega (arith, h.rows); sets = h.sets; answers = h.answers }
-  more_with c (RowsAsked place) all h = h
-  more_with c (SetsAt number) all h = record { rows = h.rows; sets = omega (arith, h.sets); answers = h.answers }
-  more_with c (AnswerAt place id attempt number) all h = record { rows = h.rows; sets = h.sets; answers = omega (arith, h.answers) }
+  more_with c (stored.Synod message) all h = h
+  more_with c (stored.Decided slot batch) all h = h
+  more_with c (stored.AskBatch slot) all h = h
+  more_with c (stored.Reads place number) all h = record { rows = omega (arith, h.rows); sets = h.sets; answers = h.answers }
+  more_with c (stored.AskReads place) all h = h
+  more_with c (stored.Warm number) all h = record { rows = h.rows; sets = omega (arith, h.sets); answers = h.answers }
+  more_with c (stored.Replies place id attempt number) all h = record { rows = h.rows; sets = h.sets; answers = omega (arith, h.answers) }
 
   all_within : (ks : List (Kept Args)) (c all : Counts) → AreKept ks c all → Within c all
   all_within [] c all h = record { rows = omega (arith, ap (λ x. x.rows) h); sets = omega (arith, ap (λ x. x.sets) h); answers = omega (arith, ap (λ x. x.answers) h) }
   all_within (k ∷ ks) c all h = more_with c k.content all (all_within ks (with_it c k.content) all h.1)
 
   here_below : (k : KeptContent Args) (c all : Counts) → IsAt k c → Within (with_it c k) all → Below k all
-  here_below (Letter message) c all at h = tt
-  here_below (Told slot batch) c all at h = tt
-  here_below (BatchAsked slot) c all at h = tt
-  here_below (RowsAt place number) c all at h = omega (arith, at, h.rows)
-  here_below (RowsAsked place) c all at h = tt
-  here_below (SetsAt number) c all at h = omega (arith, at, h.sets)
-  here_below (AnswerAt place id attempt number) c all at h = omega (arith, at, h.answers)
+  here_below (stored.Synod message) c all at h = tt
+  here_below (stored.Decided slot batch) c all at h = tt
+  here_below (stored.AskBatch slot) c all at h = tt
+  here_below (stored.Reads place number) c all at h = omega (arith, at, h.rows)
+  here_below (stored.AskReads place) c all at h = tt
+  here_below (stored.Warm number) c all at h = omega (arith, at, h.sets)
+  here_below (stored.Replies place id attempt number) c all at h = omega (arith, at, h.answers)
 
   -- what each has is there
   pub is_below : (ks : List (Kept Args)) (c all : Counts) (n : ℕ) (k : Kept Args) → AreKept ks c all → slice_get ks n ≡ Some k → Below k.content all
@@ -74,22 +76,22 @@ module _ {Args : Type 0} where
   kept-pop (x ∷ ks) k c all h = let rest = kept-pop ks k (with_it c x.content) all h.1 in record { left = rest.left; kept = (h.0, rest.kept); last = rest.last; all_is = rest.all_is }
 
   plain_adds_nothing : (k : KeptContent Args) (c : Counts) → is_plain k ≡ true → with_it c k ≡ c
-  plain_adds_nothing (Letter message) c h = refl
-  plain_adds_nothing (Told slot batch) c h = refl
-  plain_adds_nothing (BatchAsked slot) c h = refl
-  plain_adds_nothing (RowsAt place number) c h = absurd (cc)
-  plain_adds_nothing (RowsAsked place) c h = refl
-  plain_adds_nothing (SetsAt number) c h = absurd (cc)
-  plain_adds_nothing (AnswerAt place id attempt number) c h = absurd (cc)
+  plain_adds_nothing (stored.Synod message) c h = refl
+  plain_adds_nothing (stored.Decided slot batch) c h = refl
+  plain_adds_nothing (stored.AskBatch slot) c h = refl
+  plain_adds_nothing (stored.Reads place number) c h = absurd (cc)
+  plain_adds_nothing (stored.AskReads place) c h = refl
+  plain_adds_nothing (stored.Warm number) c h = absurd (cc)
+  plain_adds_nothing (stored.Replies place id attempt number) c h = absurd (cc)
 
   plain_at : (k : KeptContent Args) (c : Counts) → is_plain k ≡ true → IsAt k c
-  plain_at (Letter message) c h = tt
-  plain_at (Told slot batch) c h = tt
-  plain_at (BatchAsked slot) c h = tt
-  plain_at (RowsAt place number) c h = absurd (cc)
-  plain_at (RowsAsked place) c h = tt
-  plain_at (SetsAt number) c h = absurd (cc)
-  plain_at (AnswerAt place id attempt number) c h = absurd (cc)
+  plain_at (stored.Synod message) c h = tt
+  plain_at (stored.Decided slot batch) c h = tt
+  plain_at (stored.AskBatch slot) c h = tt
+  plain_at (stored.Reads place number) c h = absurd (cc)
+  plain_at (stored.AskReads place) c h = tt
+  plain_at (stored.Warm number) c h = absurd (cc)
+  plain_at (stored.Replies place id attempt number) c h = absurd (cc)
 
   -- another that has nothing in the place of one that has nothing
   pub kept-set : (ks : List (Kept Args)) (n : ℕ) (old new : Kept Args) (c all : Counts) → AreKept ks c all → slice_get ks n ≡ Some old → is_plain old.content ≡ true → is_plain new.content ≡ true → AreKept (slice_set ks n new) c all
@@ -124,13 +126,13 @@ module _ {Row Reply : Type 0} where
 
 module _ {Args Row Reply : Type 0} where
   said_alike : (k : KeptContent Args) (all : Counts) (one other : Lists Row Reply) → Agree all one other → Below k all → said one k ≡ said other k
-  said_alike (Letter message) all one other h low = refl
-  said_alike (Told slot batch) all one other h low = refl
-  said_alike (BatchAsked slot) all one other h low = refl
-  said_alike (RowsAt place number) all one other h low = ap (λ r. Reads place r) (h.rows number low)
-  said_alike (RowsAsked place) all one other h low = refl
-  said_alike (SetsAt number) all one other h low = ap (λ s. Warm s) (h.sets number low)
-  said_alike (AnswerAt place id attempt number) all one other h low = ap (λ a. Replies place id attempt a) (h.answers number low)
+  said_alike (stored.Synod message) all one other h low = refl
+  said_alike (stored.Decided slot batch) all one other h low = refl
+  said_alike (stored.AskBatch slot) all one other h low = refl
+  said_alike (stored.Reads place number) all one other h low = ap (λ r. Reads place r) (h.rows number low)
+  said_alike (stored.AskReads place) all one other h low = refl
+  said_alike (stored.Warm number) all one other h low = ap (λ s. Warm s) (h.sets number low)
+  said_alike (stored.Replies place id attempt number) all one other h low = ap (λ a. Replies place id attempt a) (h.answers number low)
 
   pub restored_alike : (ks : List (Kept Args)) (c all : Counts) (one other : Lists Row Reply) → AreKept ks c all → Agree all one other → map (restored {Args = Args} one) ks ≡ map (restored other) ks
   restored_alike [] c all one other h same = refl
@@ -186,22 +188,22 @@ module _ {Args Row Reply : Type 0} where
         ∙ (λ i. sym (restored_alike ks none (counts l) l (lists_with l content) h (agree_with l content)) i ++ record { from = from; to = to; content = said_of l content i } ∷ [])
 
   counts_cut : (l : Lists Row Reply) (k : KeptContent Args) (left : Counts) → IsAt k left → with_it left k ≡ counts l → left ≡ counts (lists_cut l k)
-  counts_cut l (Letter message) left at all = all
-  counts_cut l (Told slot batch) left at all = all
-  counts_cut l (BatchAsked slot) left at all = all
-  counts_cut l (RowsAt place number) left at all = λ i. record { rows = sym (short l.rows number left.rows at (ap (λ (c : Counts). c.rows) all)) i; sets = (all i).sets; answers = (all i).answers }
-  counts_cut l (RowsAsked place) left at all = all
-  counts_cut l (SetsAt number) left at all = λ i. record { rows = (all i).rows; sets = sym (short l.sets number left.sets at (ap (λ (c : Counts). c.sets) all)) i; answers = (all i).answers }
-  counts_cut l (AnswerAt place id attempt number) left at all = λ i. record { rows = (all i).rows; sets = (all i).sets; answers = sym (short l.answers number left.answers at (ap (λ (c : Counts). c.answers) all)) i }
+  counts_cut l (stored.Synod message) left at all = all
+  counts_cut l (stored.Decided slot batch) left at all = all
+  counts_cut l (stored.AskBatch slot) left at all = all
+  counts_cut l (stored.Reads place number) left at all = λ i. record { rows = sym (short l.rows number left.rows at (ap (λ (c : Counts). c.rows) all)) i; sets = (all i).sets; answers = (all i).answers }
+  counts_cut l (stored.AskReads place) left at all = all
+  counts_cut l (stored.Warm number) left at all = λ i. record { rows = (all i).rows; sets = sym (short l.sets number left.sets at (ap (λ (c : Counts). c.sets) all)) i; answers = (all i).answers }
+  counts_cut l (stored.Replies place id attempt number) left at all = λ i. record { rows = (all i).rows; sets = (all i).sets; answers = sym (short l.answers number left.answers at (ap (λ (c : Counts). c.answers) all)) i }
 
   agree_cut : (l : Lists Row Reply) (k : KeptContent Args) (left : Counts) → IsAt k left → Agree left l (lists_cut l k)
-  agree_cut l (Letter message) left at = record { rows = λ i low. refl; sets = λ i low. refl; answers = λ i low. refl }
-  agree_cut l (Told slot batch) left at = record { rows = λ i low. refl; sets = λ i low. refl; answers = λ i low. refl }
-  agree_cut l (BatchAsked slot) left at = record { rows = λ i low. refl; sets = λ i low. refl; answers = λ i low. refl }
-  agree_cut l (RowsAt place number) left at = record { rows = λ i low. before l.rows number left.rows i finmap.empty at low; sets = λ i low. refl; answers = λ i low. refl }
-  agree_cut l (RowsAsked place) left at = record { rows = λ i low. refl; sets = λ i low. refl; answers = λ i low. refl }
-  agree_cut l (SetsAt number) left at = record { rows = λ i low. refl; sets = λ i low. before l.sets number left.sets i (record { reads = []; writes = [] }) at low; answers = λ i low. refl }
-  agree_cut l (AnswerAt place id attempt number) left at = record { rows = λ i low. refl; sets = λ i low. refl; answers = λ i low. before l.answers number left.answers i Changed at low }
+  agree_cut l (stored.Synod message) left at = record { rows = λ i low. refl; sets = λ i low. refl; answers = λ i low. refl }
+  agree_cut l (stored.Decided slot batch) left at = record { rows = λ i low. refl; sets = λ i low. refl; answers = λ i low. refl }
+  agree_cut l (stored.AskBatch slot) left at = record { rows = λ i low. refl; sets = λ i low. refl; answers = λ i low. refl }
+  agree_cut l (stored.Reads place number) left at = record { rows = λ i low. before l.rows number left.rows i finmap.empty at low; sets = λ i low. refl; answers = λ i low. refl }
+  agree_cut l (stored.AskReads place) left at = record { rows = λ i low. refl; sets = λ i low. refl; answers = λ i low. refl }
+  agree_cut l (stored.Warm number) left at = record { rows = λ i low. refl; sets = λ i low. before l.sets number left.sets i (record { reads = []; writes = [] }) at low; answers = λ i low. refl }
+  agree_cut l (stored.Replies place id attempt number) left at = record { rows = λ i low. refl; sets = λ i low. refl; answers = λ i low. before l.answers number left.answers i Changed at low }
 
   -- one packet less
   module _ (ks : List (Kept Args)) (k : Kept Args) (l : Lists Row Reply) (h : AreKept (ks ++ k ∷ []) none (counts l)) where
@@ -257,6 +259,37 @@ module _ {Args Row Reply : Type 0} where
     pub packet_at : slice_get (map (restored l) ks) n ≡ Some (restored l k)
     packet_at = slice_get-map (restored l) ks n ∙ ap (λ o. option_map (restored l) o) here
 
+    -- the answer of a reply
+    abbrev answer_of : Packet Args Row Reply → Option (Answer Reply)
+    answer_of packet = answered packet.content
+
+    pub answer_low : (place : Place) (id : RequestId) (attempt at : ℕ) → k.content ≡ stored.Replies place id attempt at → at < length l.answers
+    answer_low place id attempt at is = subst (λ (x : KeptContent Args). Below x (counts l)) is kept_below
+
+    pub answer_at : (place : Place) (id : RequestId) (attempt at : ℕ) (answer : Answer Reply) → k.content ≡ stored.Replies place id attempt at → slice_get l.answers at ≡ Some answer → Some answer ≡ option_and_then answer_of (slice_get (map (restored l) ks) n)
+    answer_at place id attempt at answer is there =
+        ap Some (sym (get_or_from_slice_get l.answers at answer Changed there)) ∙ ap (λ (x : KeptContent Args). answered (said l x)) (sym is) ∙ ap (option_and_then answer_of) (sym packet_at)
+
+    answers_not : (x : KeptContent Args) → ((place : Place) (id : RequestId) (attempt at : ℕ) → x ≡ stored.Replies place id attempt at → ⊥) → None ≡ answered (said l x)
+    answers_not (stored.Synod message) other = refl
+    answers_not (stored.Decided slot batch) other = refl
+    answers_not (stored.AskBatch slot) other = refl
+    answers_not (stored.Reads place number) other = refl
+    answers_not (stored.AskReads place) other = refl
+    answers_not (stored.Warm number) other = refl
+    answers_not (stored.Replies place id attempt number) other = absurd (other place id attempt number refl)
+
+    pub no_answer : ((place : Place) (id : RequestId) (attempt at : ℕ) → k.content ≡ stored.Replies place id attempt at → ⊥) → None ≡ option_and_then answer_of (slice_get (map (restored l) ks) n)
+    no_answer other = answers_not k.content other ∙ ap (option_and_then answer_of) (sym packet_at)
+
+-- rows, or an answer, that come behind those in the lists
+module _ (Args : Type 0) {Row Reply : Type 0} (l : Lists Row Reply) (place : Place) where
+  pub rows_listed : (rows : Rows Row) (views : List (Rows Row)) → views ≡ l.rows ++ rows ∷ [] → record { rows = views; sets = l.sets; answers = l.answers } ≡ lists_with {Args = Args} l (Reads place rows)
+  rows_listed rows views is = λ i. record { rows = is i; sets = sym (append-nil l.sets) i; answers = sym (append-nil l.answers) i }
+
+  pub answer_listed : (id : RequestId) (attempt : ℕ) (answer : Answer Reply) (answers : List (Answer Reply)) → answers ≡ l.answers ++ answer ∷ [] → record { rows = l.rows; sets = l.sets; answers = answers } ≡ lists_with {Args = Args} l (Replies place id attempt answer)
+  answer_listed id attempt answer answers is = λ i. record { rows = sym (append-nil l.rows) i; sets = sym (append-nil l.sets) i; answers = is i }
+
 -- what is looked up at a number
 pub found_at : {X : Type 0} (xs items : List X) (n : ℕ) (x d : X) → xs ≡ items → n < length xs → x ≡ slice_index_or xs n d → slice_get items n ≡ Some x
 found_at xs items n x d is low here =
@@ -269,13 +302,13 @@ set_same (y ∷ ys) (suc n) x here = ap (λ zs. y ∷ zs) (set_same ys n x here)
 
 module _ {Args Row Reply : Type 0} where
   light_said : (l : Lists Row Reply) (k : KeptContent Args) → is_light (said l k) ≡ is_plain k
-  light_said l (Letter message) = refl
-  light_said l (Told slot batch) = refl
-  light_said l (BatchAsked slot) = refl
-  light_said l (RowsAt place number) = refl
-  light_said l (RowsAsked place) = refl
-  light_said l (SetsAt number) = refl
-  light_said l (AnswerAt place id attempt number) = refl
+  light_said l (stored.Synod message) = refl
+  light_said l (stored.Decided slot batch) = refl
+  light_said l (stored.AskBatch slot) = refl
+  light_said l (stored.Reads place number) = refl
+  light_said l (stored.AskReads place) = refl
+  light_said l (stored.Warm number) = refl
+  light_said l (stored.Replies place id attempt number) = refl
 
   said_light : (l : Lists Row Reply) (c : Counts) (content : Content Args Row Reply) → is_light content ≡ true → said l (kept_of c content) ≡ content
   said_light l c (Synod message) h = refl

@@ -5,7 +5,7 @@ use mir.Syntax.{Ty}
 use prog.Memory.{align, size, up}
 use prog.Align.{up-ge}
 use Rattle.std.proofs.Common.{◌≡◌, subst, arith}
-use Rattle.calvin_sched.proofs.Sizes.{up_near, txn_at, pair_at, slot_at, few_at, view_at, job_at, reply_at, txn_size, view_size, work_size, serving_size, much, align_most, serving_fits}
+use Rattle.calvin_sched.proofs.Sizes.{up_near, txn_at, pair_at, slot_at, few_at, view_at, job_at, reply_at, txn_size, view_size, work_size, much, align_most}
 
 -- a view or an answer, and at most 400 bytes
 within : (packet content at view reply job whole text shown given : ℕ) → 0 < packet → packet ≤ 16 → 0 < content → content ≤ 16 → 0 < view → view ≤ 16 → 0 < reply → reply ≤ 16 → 304 ≤ text → 280 ≤ shown
@@ -129,6 +129,3 @@ module _ (args row reply : Ty) (fits : work_size (align args) (size args) (align
 
   pub sent_of : sent_size (align args) (size args) (align row) (size row) (align reply) (size reply) < 2 ^ 63
   sent_of = sent_fits (align args) (size args) (align row) (size row) (align reply) (size reply) (align_most row) (align_most reply) fits
-
-  pub serving_of : serving_size (align args) (size args) (align row) (size row) (align reply) (size reply) < 2 ^ 63
-  serving_of = serving_fits (align args) (size args) (align row) (size row) (align reply) (size reply) (align_most args) (align_most row) fits

@@ -2,8 +2,11 @@
 --     Lists      these lists
 --     restored lists kept      the packet that is kept so
 --     AreKept kept so_far all      of the packets that have rows, sets or an answer each names the next ones, up to all
---     IsStored before after content kept      what a packet says is kept so, and what it has comes behind what is in the lists
-use Rattle.std.specs.Prelude.{◌≡◌, ℕ, ◌+◌, ◌<◌, Bool, true, false, ⊤, List, [], ◌∷◌, ◌++◌, length, map, take, slice_index_or}
+--     Below kept all      what the packet has stands within so much
+--     said lists kept      what a packet says that is kept so
+--     kept_of so_far content      what is kept of what a packet says, where so much comes before it
+--     lists_with lists content, lists_cut lists kept      the lists with what a packet has, and without it
+use Rattle.std.specs.Prelude.{◌≡◌, ℕ, ◌+◌, ◌<◌, Bool, ⊤, List, [], ◌∷◌, ◌++◌, length, take, slice_index_or}
 use Rattle.std.specs.FinMap as finmap
 use Rattle.calvin_types.specs.declared.key_set.Sets.{Sets}
 use Rattle.calvin_app.specs.Rows.{Rows}
@@ -11,10 +14,11 @@ use Rattle.calvin_app.specs.declared.answer.Answer.{Answer}
 use Rattle.calvin_app.specs.declared.answer.Answer.TheVariants.{Changed}
 use Rattle.calvin_node_packets.specs.declared.kept.Kept.{Kept}
 use Rattle.calvin_node_packets.specs.declared.kept.KeptContent.{KeptContent}
-use Rattle.calvin_node_packets.specs.declared.kept.KeptContent.TheVariants.{Letter, Told, BatchAsked, RowsAt, RowsAsked, SetsAt, AnswerAt}
+use Rattle.calvin_node_packets.specs.declared.kept.KeptContent.TheVariants as stored
 use Rattle.calvin_node_packets.specs.declared.packet.Content.{Content}
 use Rattle.calvin_node_packets.specs.declared.packet.Content.TheVariants.{Synod, Decided, AskBatch, Reads, AskReads, Warm, Replies}
 use Rattle.calvin_node_packets.specs.declared.packet.Packet.{Packet}
+use Rattle.calvin_node_packets.specs.Packets.{is_light}
 
 pub record Lists (Row Reply : Type 0) : Type 0 where
   pub rows : List (Rows Row)
@@ -34,33 +38,40 @@ module _ {Row Reply : Type 0} where
   abbrev pub counts : Lists Row Reply → Counts
   counts l = record { rows = length l.rows; sets = length l.sets; answers = length l.answers }
 
+module _ {Args Row Reply : Type 0} where
+  abbrev pub said : Lists Row Reply → KeptContent Args → Content Args Row Reply
+  said l (stored.Synod message) = Synod message
+  said l (stored.Decided slot batch) = Decided slot batch
+  said l (stored.AskBatch slot) = AskBatch slot
+  said l (stored.Reads place number) = Reads place (slice_index_or l.rows number finmap.empty)
+  said l (stored.AskReads place) = AskReads place
+  said l (stored.Warm number) = Warm (slice_index_or l.sets number (record { reads = []; writes = [] }))
+  said l (stored.Replies place id attempt number) = Replies place id attempt (slice_index_or l.answers number Changed)
+
 module _ {Args : Type 0} where
-  -- it has neither rows nor sets nor an answer
+  -- what it says is light, whatever stands in the lists
   abbrev pub is_plain : KeptContent Args → Bool
-  is_plain (RowsAt place number) = false
-  is_plain (SetsAt number) = false
-  is_plain (AnswerAt place id attempt number) = false
-  is_plain _ = true
+  is_plain kept = is_light (said {Row = ⊤} {Reply = ⊤} (record { rows = []; sets = []; answers = [] }) kept)
 
   -- what it has comes behind so much
   abbrev pub IsAt : KeptContent Args → Counts → Type 0
-  IsAt (RowsAt place number) so_far = number ≡ so_far.rows
-  IsAt (SetsAt number) so_far = number ≡ so_far.sets
-  IsAt (AnswerAt place id attempt number) so_far = number ≡ so_far.answers
+  IsAt (stored.Reads place number) so_far = number ≡ so_far.rows
+  IsAt (stored.Warm number) so_far = number ≡ so_far.sets
+  IsAt (stored.Replies place id attempt number) so_far = number ≡ so_far.answers
   IsAt _ so_far = ⊤
 
   -- what it has stands within so much
   abbrev pub Below : KeptContent Args → Counts → Type 0
-  Below (RowsAt place number) all = number < all.rows
-  Below (SetsAt number) all = number < all.sets
-  Below (AnswerAt place id attempt number) all = number < all.answers
+  Below (stored.Reads place number) all = number < all.rows
+  Below (stored.Warm number) all = number < all.sets
+  Below (stored.Replies place id attempt number) all = number < all.answers
   Below _ all = ⊤
 
   -- so much there is with it
   abbrev pub with_it : Counts → KeptContent Args → Counts
-  with_it so_far (RowsAt place number) = record so_far { rows = so_far.rows + 1 }
-  with_it so_far (SetsAt number) = record so_far { sets = so_far.sets + 1 }
-  with_it so_far (AnswerAt place id attempt number) = record so_far { answers = so_far.answers + 1 }
+  with_it so_far (stored.Reads place number) = record so_far { rows = so_far.rows + 1 }
+  with_it so_far (stored.Warm number) = record so_far { sets = so_far.sets + 1 }
+  with_it so_far (stored.Replies place id attempt number) = record so_far { answers = so_far.answers + 1 }
   with_it so_far _ = so_far
 
   abbrev pub AreKept : List (Kept Args) → Counts → Counts → Type 0
@@ -68,15 +79,6 @@ module _ {Args : Type 0} where
   AreKept (k ∷ ks) so_far all = IsAt k.content so_far × AreKept ks (with_it so_far k.content) all
 
 module _ {Args Row Reply : Type 0} where
-  abbrev pub said : Lists Row Reply → KeptContent Args → Content Args Row Reply
-  said l (Letter message) = Synod message
-  said l (Told slot batch) = Decided slot batch
-  said l (BatchAsked slot) = AskBatch slot
-  said l (RowsAt place number) = Reads place (slice_index_or l.rows number finmap.empty)
-  said l (RowsAsked place) = AskReads place
-  said l (SetsAt number) = Warm (slice_index_or l.sets number (record { reads = []; writes = [] }))
-  said l (AnswerAt place id attempt number) = Replies place id attempt (slice_index_or l.answers number Changed)
-
   abbrev pub restored : Lists Row Reply → Kept Args → Packet Args Row Reply
   restored l k = record { from = k.from; to = k.to; content = said l k.content }
 
@@ -95,13 +97,13 @@ module _ {Args Row Reply : Type 0} where
 
   -- what is kept of it, where so much comes before it
   abbrev pub kept_of : Counts → Content Args Row Reply → KeptContent Args
-  kept_of so_far (Synod message) = Letter message
-  kept_of so_far (Decided slot batch) = Told slot batch
-  kept_of so_far (AskBatch slot) = BatchAsked slot
-  kept_of so_far (Reads place rows) = RowsAt place so_far.rows
-  kept_of so_far (AskReads place) = RowsAsked place
-  kept_of so_far (Warm sets) = SetsAt so_far.sets
-  kept_of so_far (Replies place id attempt answer) = AnswerAt place id attempt so_far.answers
+  kept_of so_far (Synod message) = stored.Synod message
+  kept_of so_far (Decided slot batch) = stored.Decided slot batch
+  kept_of so_far (AskBatch slot) = stored.AskBatch slot
+  kept_of so_far (Reads place rows) = stored.Reads place so_far.rows
+  kept_of so_far (AskReads place) = stored.AskReads place
+  kept_of so_far (Warm sets) = stored.Warm so_far.sets
+  kept_of so_far (Replies place id attempt answer) = stored.Replies place id attempt so_far.answers
 
   -- the lists with what it has
   abbrev pub lists_with : Lists Row Reply → Content Args Row Reply → Lists Row Reply
@@ -109,7 +111,7 @@ module _ {Args Row Reply : Type 0} where
 
   -- the lists without what a packet has, and what comes behind
   abbrev pub lists_cut : Lists Row Reply → KeptContent Args → Lists Row Reply
-  lists_cut l (RowsAt place number) = record l { rows = take number l.rows }
-  lists_cut l (SetsAt number) = record l { sets = take number l.sets }
-  lists_cut l (AnswerAt place id attempt number) = record l { answers = take number l.answers }
+  lists_cut l (stored.Reads place number) = record l { rows = take number l.rows }
+  lists_cut l (stored.Warm number) = record l { sets = take number l.sets }
+  lists_cut l (stored.Replies place id attempt number) = record l { answers = take number l.answers }
   lists_cut l _ = l

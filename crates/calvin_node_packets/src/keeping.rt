@@ -29,24 +29,24 @@ pub(crate) fn store<A: App>(
     ensures answers_room { vec_capacity answers.old - vec_len answers.old ≤ (vec_capacity answers.new - vec_len answers.new) + 1 }
 {
     match content {
-        Content::Synod(message) => KeptContent::Letter(message),
-        Content::Decided(slot, batch) => KeptContent::Told(slot, batch),
-        Content::AskBatch(slot) => KeptContent::BatchAsked(slot),
+        Content::Synod(message) => KeptContent::Synod(message),
+        Content::Decided(slot, batch) => KeptContent::Decided(slot, batch),
+        Content::AskBatch(slot) => KeptContent::AskBatch(slot),
         Content::Reads(place, view) => {
             let number = rows.len();
             rows.push_reserved(&view);
-            KeptContent::RowsAt(place, number)
+            KeptContent::Reads(place, number)
         }
-        Content::AskReads(place) => KeptContent::RowsAsked(place),
+        Content::AskReads(place) => KeptContent::AskReads(place),
         Content::Warm(warm) => {
             let number = sets.len();
             sets.push_reserved(warm);
-            KeptContent::SetsAt(number)
+            KeptContent::Warm(number)
         }
         Content::Replies(place, id, attempt, answer) => {
             let number = answers.len();
             answers.push_reserved(answer);
-            KeptContent::AnswerAt(place, id, attempt, number)
+            KeptContent::Replies(place, id, attempt, number)
         }
     }
 }
@@ -66,9 +66,9 @@ pub(crate) fn cut<A: App>(
     ensures answers_room { vec_capacity answers.old - vec_len answers.old ≤ vec_capacity answers.new - vec_len answers.new }
 {
     match content {
-        KeptContent::RowsAt(_, number) => rows.truncate(*number),
-        KeptContent::SetsAt(number) => sets.truncate(*number),
-        KeptContent::AnswerAt(_, _, _, number) => answers.truncate(*number),
+        KeptContent::Reads(_, number) => rows.truncate(*number),
+        KeptContent::Warm(number) => sets.truncate(*number),
+        KeptContent::Replies(_, _, _, number) => answers.truncate(*number),
         _ => {}
     }
 }
@@ -84,13 +84,13 @@ pub(crate) fn sent_of<'a, A: App>(
     ensures { content_of result ≡ said (record { rows = rows.now.views; sets = sets.now; answers = answers.now }) content.now }
 {
     match content {
-        KeptContent::Letter(message) => Sent::Synod(message),
-        KeptContent::Told(slot, batch) => Sent::Decided(*slot, batch),
-        KeptContent::BatchAsked(slot) => Sent::AskBatch(*slot),
-        KeptContent::RowsAt(place, at) => Sent::Reads(*place, rows.at(*at)),
-        KeptContent::RowsAsked(place) => Sent::AskReads(*place),
-        KeptContent::SetsAt(at) => Sent::Warm(sets[*at]),
-        KeptContent::AnswerAt(place, id, attempt, at) => {
+        KeptContent::Synod(message) => Sent::Synod(message),
+        KeptContent::Decided(slot, batch) => Sent::Decided(*slot, batch),
+        KeptContent::AskBatch(slot) => Sent::AskBatch(*slot),
+        KeptContent::Reads(place, at) => Sent::Reads(*place, rows.at(*at)),
+        KeptContent::AskReads(place) => Sent::AskReads(*place),
+        KeptContent::Warm(at) => Sent::Warm(sets[*at]),
+        KeptContent::Replies(place, id, attempt, at) => {
             Sent::Replies(*place, *id, *attempt, answers[*at])
         }
     }
@@ -108,9 +108,9 @@ pub(crate) fn listed<A: App>(
         × (listed ≡ said (record { rows = rows.now.views; sets = sets.now; answers = answers.now }) content.now)) }
 {
     match content {
-        KeptContent::RowsAt(place, at) => Some(Content::Reads(*place, rows.at(*at))),
-        KeptContent::SetsAt(at) => Some(Content::Warm(sets[*at])),
-        KeptContent::AnswerAt(place, id, attempt, at) => {
+        KeptContent::Reads(place, at) => Some(Content::Reads(*place, rows.at(*at))),
+        KeptContent::Warm(at) => Some(Content::Warm(sets[*at])),
+        KeptContent::Replies(place, id, attempt, at) => {
             Some(Content::Replies(*place, *id, *attempt, answers[*at]))
         }
         _ => None,
@@ -123,11 +123,11 @@ pub(crate) fn taken_out<Args, Row, Reply>(content: KeptContent<Args>) -> Content
     ensures { (lists : Lists Row Reply) → said lists content ≡ result }
 {
     match content {
-        KeptContent::Letter(message) => Content::Synod(message),
-        KeptContent::Told(slot, batch) => Content::Decided(slot, batch),
-        KeptContent::BatchAsked(slot) => Content::AskBatch(slot),
-        KeptContent::RowsAsked(place) => Content::AskReads(place),
-        KeptContent::RowsAt(..) | KeptContent::SetsAt(_) | KeptContent::AnswerAt(..) => {
+        KeptContent::Synod(message) => Content::Synod(message),
+        KeptContent::Decided(slot, batch) => Content::Decided(slot, batch),
+        KeptContent::AskBatch(slot) => Content::AskBatch(slot),
+        KeptContent::AskReads(place) => Content::AskReads(place),
+        KeptContent::Reads(..) | KeptContent::Warm(_) | KeptContent::Replies(..) => {
             unreachable!()
         }
     }
@@ -140,10 +140,10 @@ pub(crate) fn put_in<Args, Row: Copy, Reply: Copy>(
     ensures { MatchOption result (is_light content ≡ false) (λ kept. (is_light content ≡ true) × (kept ≡ kept_of none content)) }
 {
     match content {
-        Content::Synod(message) => Some(KeptContent::Letter(message)),
-        Content::Decided(slot, batch) => Some(KeptContent::Told(slot, batch)),
-        Content::AskBatch(slot) => Some(KeptContent::BatchAsked(slot)),
-        Content::AskReads(place) => Some(KeptContent::RowsAsked(place)),
+        Content::Synod(message) => Some(KeptContent::Synod(message)),
+        Content::Decided(slot, batch) => Some(KeptContent::Decided(slot, batch)),
+        Content::AskBatch(slot) => Some(KeptContent::AskBatch(slot)),
+        Content::AskReads(place) => Some(KeptContent::AskReads(place)),
         Content::Reads(..) | Content::Warm(_) | Content::Replies(..) => None,
     }
 }

@@ -3,17 +3,17 @@ use crate::packet::Address;
 use calvin_synod::Message;
 use calvin_types::{Batch, NodeId, Place, RequestId, Slot};
 
-/// What a packet says, but for rows, sets and answers, which take more room than all else: these stand in lists of their own,
-/// each at a number.
+/// What a packet says, as a `Content`, but for rows, sets and answers, which take more room than all else: these stand in lists
+/// of their own, each at a number.
 #[derive(Drop)]
 pub(crate) enum KeptContent<Args> {
-    Letter(Message<Batch<Args>>),
-    Told(Slot, Batch<Args>),
-    BatchAsked(Slot),
-    RowsAt(Place, usize),
-    RowsAsked(Place),
-    SetsAt(usize),
-    AnswerAt(Place, RequestId, u8, usize),
+    Synod(Message<Batch<Args>>),
+    Decided(Slot, Batch<Args>),
+    AskBatch(Slot),
+    Reads(Place, usize),
+    AskReads(Place),
+    Warm(usize),
+    Replies(Place, RequestId, u8, usize),
 }
 
 /// A packet without its rows, sets or answer.

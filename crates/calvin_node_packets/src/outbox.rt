@@ -1,8 +1,9 @@
 //! What a node sends.
 ghost use Rattle.std.specs.Prelude.{◌≡◌, ◌+◌, ◌-◌, ◌<◌, ◌≤◌, ◌++◌, [], ◌∷◌, false, true, length, take, Some, None, slice_get, slice_set, IfOk, IsOk, IsOkUnless, OnOk, OnErr, MatchOption};
-ghost use Rattle.std.specs.Option.{option_map, option_and_then};
-ghost use Rattle.calvin_node_packets.specs.Packets.{CanBePut, IsLent, answered, replied};
+ghost use Rattle.std.specs.Option.{ForSome, option_map, option_and_then};
+ghost use Rattle.calvin_node_packets.specs.Packets.{CanBePut, IsLent, answered, replied, tells_batch};
 ghost use Rattle.calvin_node_packets.specs.Sendings.{content_of};
+ghost use Rattle.calvin_node_packets.specs.declared.packet.Content.TheVariants.{Reads, Replies};
 ghost use Rattle.calvin_node_packets.specs.declared.packet.Packet.{Packet};
 
 use crate::keeping::{cut, listed, put_in, sent_of, store, taken_out};
@@ -10,6 +11,7 @@ use crate::kept::{Kept, KeptContent};
 use crate::packet::{Address, Packet};
 use crate::sent::Sent;
 use calvin_app::{Answer, App};
+use calvin_row_list::RowList;
 use calvin_types::{Fault, NodeId, Place, RequestId, Sets};
 use calvin_view_list::ViewList;
 use std::alloc::Global;
@@ -103,7 +105,7 @@ impl<A: App> Outbox<A> {
         ensures { result ≡ option_and_then (λ packet. replied packet.content) (slice_get self.now.packets number) }
     {
         match &self.kept.get(number)?.content {
-            KeptContent::AnswerAt(place, id, attempt, _) => Some((*place, *id, *attempt)),
+            KeptContent::Replies(place, id, attempt, _) => Some((*place, *id, *attempt)),
             _ => None,
         }
     }
@@ -112,8 +114,8 @@ impl<A: App> Outbox<A> {
     pub fn answer(&self, number: usize) -> Option<Answer<A::Reply>>
         ensures { result ≡ option_and_then (λ packet. answered packet.content) (slice_get self.now.packets number) }
     {
-        match self.sent(number)? {
-            Sent::Replies(_, _, _, answer) => Some(answer),
+        match &self.kept.get(number)?.content {
+            KeptContent::Replies(_, _, _, at) => Some(self.answers[*at]),
             _ => None,
         }
     }
@@ -122,6 +124,7 @@ impl<A: App> Outbox<A> {
     pub fn copy(&self, number: usize) -> Result<Option<Packet<A::Args, A::Row, A::Reply>>, Fault>
         ensures ok { IfOk result (λ packet. packet ≡ slice_get self.now.packets number) }
         ensures only { IsOkUnless result Fault.OutOfMemory }
+        ensures succeeds { ForSome (slice_get self.now.packets number) (λ packet. tells_batch packet.content ≡ false) → IsOk result }
     {
         let Some(kept) = self.kept.get(number) else {
             return Ok(None);
@@ -160,15 +163,13 @@ impl<A: App> Outbox<A> {
             return Some(Packet { from, to, content });
         }
         let first = Place { epoch: 0, n: 0 };
-        let lent = mem::replace(
-            &mut self.kept[number].content,
-            KeptContent::RowsAsked(first),
-        );
+        let lent = mem::replace(&mut self.kept[number].content, KeptContent::AskReads(first));
         let content = taken_out(lent);
         Some(Packet { from, to, content })
     }
 
-    /// Puts a packet that was taken out in the place of its number.
+    /// Puts a packet that was taken out in the place of its number. A packet stands there: one that has neither rows nor sets nor
+    /// an answer, if this one has none, and else this very one.
     pub fn put_back(&mut self, number: usize, packet: Packet<A::Args, A::Row, A::Reply>)
         requires { CanBePut self.old.packets number packet }
         ensures { self.new.packets ≡ slice_set self.old.packets number packet }
@@ -216,6 +217,46 @@ impl<A: App> Outbox<A> {
     {
         let Packet { from, to, content } = packet;
         let content = store::<A>(&mut self.rows, &mut self.sets, &mut self.answers, content);
+        self.kept.push_reserved(Kept { from, to, content });
+    }
+
+    /// One packet more, with the rows of a list, which were read for the request at a place. There is room. No `Content` is made
+    /// of them.
+    pub(crate) fn push_rows(
+        &mut self,
+        from: NodeId,
+        to: Address,
+        place: Place,
+        rows: &RowList<A::Row>,
+    )
+        requires { 0 < self.old.room }
+        ensures packets { self.new.packets ≡ self.old.packets ++ record { from = from; to = to; content = Reads place rows.now.rows } ∷ [] }
+        ensures room { self.old.room ≤ self.new.room + 1 }
+    {
+        let number = self.rows.len();
+        self.rows.push_listed(rows);
+        let content = KeptContent::Reads(place, number);
+        self.kept.push_reserved(Kept { from, to, content });
+    }
+
+    /// One packet more, which replies to the attempt of a request that was run at a place. There is room. No `Content` is made of
+    /// the answer.
+    pub fn push_answer(
+        &mut self,
+        from: NodeId,
+        to: Address,
+        place: Place,
+        id: RequestId,
+        attempt: u8,
+        answer: Answer<A::Reply>,
+    )
+        requires { 0 < self.old.room }
+        ensures packets { self.new.packets ≡ self.old.packets ++ record { from = from; to = to; content = Replies place id attempt answer } ∷ [] }
+        ensures room { self.old.room ≤ self.new.room + 1 }
+    {
+        let number = self.answers.len();
+        self.answers.push_reserved(answer);
+        let content = KeptContent::Replies(place, id, attempt, number);
         self.kept.push_reserved(Kept { from, to, content });
     }
 

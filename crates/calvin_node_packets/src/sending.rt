@@ -8,7 +8,8 @@ ghost use Rattle.calvin_node_packets.specs.Packets.{to_each, to_replicas, synod_
 
 use crate::outbox::Outbox;
 use crate::packet::{Address, Content, Packet};
-use calvin_app::{App, View};
+use calvin_app::App;
+use calvin_row_list::RowList;
 use calvin_synod::Mail;
 use calvin_types::{Batch, Config, Fault, Few, MOST_KEYS, NodeId, Place, Sets, Txn};
 
@@ -135,19 +136,18 @@ impl<A: App> Outbox<A> {
         &mut self,
         from: NodeId,
         place: Place,
-        rows: &View<A::Row>,
+        rows: &RowList<A::Row>,
         partitions: &Few<u8>,
     )
         requires { length partitions.now ≤ self.old.room }
-        ensures { self.new.packets ≡ self.old.packets ++ to_each from from.replica (Reads place rows.now) partitions.now }
+        ensures { self.new.packets ≡ self.old.packets ++ to_each from from.replica (Reads place rows.now.rows) partitions.now }
     {
         for i in 0..partitions.len() {
             let to = Address::AtNode(NodeId {
                 replica: from.replica,
                 partition: partitions.at(i),
             });
-            let content = Content::Reads(place, *rows);
-            self.push_reserved(Packet { from, to, content });
+            self.push_rows(from, to, place, rows);
         }
     }
 

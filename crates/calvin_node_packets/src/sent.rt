@@ -11,12 +11,19 @@ use calvin_types::{Batch, Fault, Place, RequestId, Sets, Slot};
 /// What a packet in an outbox says: the same as a `Content`, whose batch is looked at where it lies.
 #[derive(Drop)]
 pub enum Sent<'a, Args, Row, Reply> {
+    /// A message of the synods of the sender's group.
     Synod(&'a Message<Batch<Args>>),
+    /// The batch of a slot is decided.
     Decided(Slot, &'a Batch<Args>),
+    /// Asks for the batch of a slot.
     AskBatch(Slot),
+    /// The rows that the sender's partition read for the request at a place.
     Reads(Place, View<Row>),
+    /// Asks for the rows that were read for the request at a place.
     AskReads(Place),
+    /// The rows of these keys are wanted in memory soon.
     Warm(Sets),
+    /// What the client's request came to: the place at which it was run, its name, its attempt, and the answer.
     Replies(Place, RequestId, u8, Answer<Reply>),
 }
 

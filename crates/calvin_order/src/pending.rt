@@ -67,13 +67,13 @@ impl<Args: Copy> PendingRequests<Args> {
     pub fn remove_first(&mut self)
         ensures { self.new.requests ≡ drop 1 self.old.requests }
     {
-        let Some(segment) = self.segments.pop_front() else {
+        let Some(segment) = self.segments.front_mut() else {
             return;
         };
-        match segment.without_first() {
-            Some(rest) => self.segments.push_front_reserved(rest),
-            None => {}
+        if segment.advance() {
+            return;
         }
+        let _last = self.segments.pop_front();
     }
 
     /// Room for so many more segments. Refused with `OutOfMemory`, and only where there is less room.

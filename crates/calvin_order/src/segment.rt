@@ -1,5 +1,5 @@
 //! Requests that follow one another in the merged order.
-ghost use Rattle.std.specs.Prelude.{◌≡◌, ◌+◌, ◌*◌, ◌<◌, ◌≤◌, ◌∷◌, [], length, drop, IfOk, IsOkUnless, MatchOption};
+ghost use Rattle.std.specs.Prelude.{◌≡◌, ◌+◌, ◌*◌, ◌<◌, ◌≤◌, ◌∷◌, [], length, drop, IfOk, IsOkUnless, MatchBool};
 ghost use Rattle.calvin_order.specs.Merged.{numbered};
 ghost use Rattle.calvin_order.specs.Walking.{placed};
 
@@ -66,23 +66,17 @@ impl<Args: Copy> MergedSegment<Args> {
         Ok((self.place, SharedTxn::new(requests, self.given)))
     }
 
-    /// What is left without the first request, if there is another.
-    pub fn without_first(self) -> Option<MergedSegment<Args>>
-        ensures some { 0 < length self }
-        ensures rest { MatchOption result (drop 1 self ≡ []) (λ rest. rest ≡ drop 1 self) }
+    /// Takes the first request out, and says so, if another one follows it. Else nothing changed.
+    pub fn advance(&mut self) -> bool
+        ensures some { 0 < length self.old }
+        ensures rest { MatchBool result (self.new ≡ drop 1 self.old) ((drop 1 self.old ≡ []) × (self.new ≡ self.old)) }
     {
         let size = self.requests.as_slice().len();
         if self.given + 1 == size {
-            return None;
+            return false;
         }
-        let place = Place {
-            epoch: self.place.epoch,
-            n: self.place.n + 1,
-        };
-        Some(MergedSegment {
-            requests: self.requests,
-            given: self.given + 1,
-            place,
-        })
+        self.given += 1;
+        self.place.n += 1;
+        true
     }
 }

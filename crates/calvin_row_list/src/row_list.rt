@@ -1,9 +1,12 @@
 //! Rows that stand in a list of just the room that they need.
-ghost use Rattle.std.specs.Prelude.{◌≡◌, ◌≤◌, max, IsOk, OnOk, OnErr, IsOkUnless};
+ghost use Rattle.calvin_app.specs.Entries.{rising, shown};
+ghost use Rattle.calvin_app.specs.Rows.{view};
+ghost use Rattle.calvin_types.specs.declared.limits.TheConstants.{MOST_KEYS};
+ghost use Rattle.std.specs.Prelude.{◌≡◌, ◌≤◌, length, max, IsOk, OnOk, OnErr, IsOkUnless};
 ghost use Rattle.std.specs.FinMap as map;
 
-use calvin_app::View;
-use calvin_types::{Fault, Key};
+use calvin_app::{Look, View};
+use calvin_types::{Fault, Key, KeySet};
 use std::alloc::Global;
 use std::marker::Model;
 
@@ -60,6 +63,31 @@ impl<Row: Copy> RowList<Row> {
         for i in 0..rows.len() {
             self.entries.push_reserved(rows.at(i));
         }
+    }
+
+    /// Looks these keys up in turn, and puts the rows that they have in place of those that are there; keys without a row
+    /// are left out. There is room for a row of each.
+    pub fn read<L: Look<Row>>(&mut self, rows: &L, keys: &KeySet)
+        requires { length keys.now ≤ self.old.room }
+        ensures { self.new ≡ record self.old { rows = view (L.shown rows.now) keys.now } }
+    {
+        self.entries.clear();
+        for i in 0..keys.len() {
+            let key = keys.at(i);
+            match rows.look(&key) {
+                Some(row) => self.entries.push_reserved((key, row)),
+                None => {}
+            }
+        }
+    }
+
+    /// The rows with their keys, which rise.
+    pub fn entries(&self) -> &[(Key, Row)]
+        ensures rows { shown result.now ≡ self.now.rows }
+        ensures rising { rising result.now }
+        ensures few { length result.now ≤ MOST_KEYS }
+    {
+        self.entries.as_slice()
     }
 
     /// The row of a key, if it has one.

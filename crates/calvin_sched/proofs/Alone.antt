@@ -2,6 +2,7 @@
 use Rattle.std.proofs.Common.{◌≡◌, ℕ, ◌<◌, ◌≤◌, inl, inr, Bool, true, false, not, cond, ◌&&◌, List, [], ◌∷◌, ◌++◌, length, refl, sym, ap, subst, ◌∙◌, arith}
 use Rattle.std.specs.Prelude.{◌==◌, nat_le, nat_lt, is_some}
 use Rattle.std.specs.List.{filter, list_any, list_all, range_with_len}
+use Rattle.std.proofs.lemmas.List.Folds.{list_all-append}
 use Rattle.std.proofs.lemmas.Bool.{false≢true, false_from_ne_true, cases_lt, and_parts, and_cases, and_from, and_left, and_right, or_left, or_right, or_from, or_cases, eqb-true, eq-eqb, ne_eqb, leb-true, le-leb, lt-ltb, not_from_true, not_from_false}
 use Rattle.calvin_types.specs.declared.key.Key.{Key}
 use Rattle.calvin_types.specs.declared.txn.Txn.{Txn}
@@ -12,14 +13,27 @@ use Rattle.calvin_sched.specs.Scheduling.{Turn, awaits, other_active, is_finishe
 use Rattle.calvin_sched.specs.Keeping.{awaited}
 use Rattle.calvin_sched.proofs.Partitions.{one_less}
 
+first : (a b c d e : Bool) → a ≡ false → (a && b && c && d && e) ≡ false
+first a b c d e h = and_left (a && b && c && d) e (and_left (a && b && c) d (and_left (a && b) c (and_left a b h)))
+
 second : (a b c d e : Bool) → b ≡ false → (a && b && c && d && e) ≡ false
 second a b c d e h = and_left (a && b && c && d) e (and_left (a && b && c) d (and_left (a && b) c (and_right a b h)))
 
-third : (a b c d e : Bool) → c ≡ false → (a && b && c && d && e) ≡ false
+pub third : (a b c d e : Bool) → c ≡ false → (a && b && c && d && e) ≡ false
 third a b c d e h = and_left (a && b && c && d) e (and_left (a && b && c) d (and_right (a && b) c h))
 
-fourth : (a b c d e : Bool) → d ≡ false → (a && b && c && d && e) ≡ false
+pub fourth : (a b c d e : Bool) → d ≡ false → (a && b && c && d && e) ≡ false
 fourth a b c d e h = and_left (a && b && c && d) e (and_right (a && b && c) d h)
+
+pub fifth : (a b c d e : Bool) → e ≡ false → (a && b && c && d && e) ≡ false
+fifth a b c d e h = and_right (a && b && c && d) e h
+
+pub all_five : (a b c d e : Bool) → a ≡ true → b ≡ true → c ≡ true → d ≡ true → e ≡ true → (a && b && c && d && e) ≡ true
+all_five a b c d e f g h i j = and_from (a && b && c && d) e (and_from (a && b && c) d (and_from (a && b) c (and_from a b f g) h) i) j
+
+and_all : (b : Bool) → (b && true) ≡ b
+and_all true = refl
+and_all false = refl
 
 none_pass : {X : Type 0} (f : X → Bool) → ((x : X) → f x ≡ false) → (xs : List X) → length (filter f xs) ≡ 0
 none_pass f fails [] = refl
@@ -33,7 +47,7 @@ any_in_first f (x ∷ xs) ys h = elim (or_cases (f x) (list_any f xs) h) [
 ]
 
 -- what passes one test, and so another that all pass
-meets : {X : Type 0} (f h : X → Bool) (xs : List X) → list_any f xs ≡ true → list_all h xs ≡ true → (x : X) × ((f x ≡ true) × (h x ≡ true))
+pub meets : {X : Type 0} (f h : X → Bool) (xs : List X) → list_any f xs ≡ true → list_all h xs ≡ true → (x : X) × ((f x ≡ true) × (h x ≡ true))
 meets f h [] some all = absurd (false≢true some)
 meets f h (x ∷ xs) some all =
     let parts = and_parts (h x) (list_all h xs) all in
@@ -43,10 +57,10 @@ meets f h (x ∷ xs) some all =
     ]
 
 module _ (partitions : ℕ) where
-  abbrev at : ℕ → Key → Bool
+  abbrev pub at : ℕ → Key → Bool
   at p = is_local (site partitions p)
 
-  abbrev from : ℕ → Key → Bool
+  abbrev pub from : ℕ → Key → Bool
   from p k = nat_le p (partition_of partitions k)
 
   elsewhere : (here p : ℕ) → (p ≡ here → ⊥) → (ks : List Key) → list_all (at here) ks ≡ true → list_any (at p) ks ≡ false
@@ -65,11 +79,18 @@ module _ (partitions : ℕ) where
         (found.0, (found.1.0, or_right (at (partition_of partitions found.0) k) (list_any (at (partition_of partitions found.0)) ks) found.1.1))
   ]
 
-  lower : (a b : ℕ) → a ≤ b → (ks : List Key) → list_all (from b) ks ≡ true → list_all (from a) ks ≡ true
+  pub lower : (a b : ℕ) → a ≤ b → (ks : List Key) → list_all (from b) ks ≡ true → list_all (from a) ks ≡ true
   lower a b le [] h = refl
   lower a b le (k ∷ ks) h =
       let parts = and_parts (from b k) (list_all (from b) ks) h in
       and_from (from a k) (list_all (from a) ks) (le-leb a (partition_of partitions k) (omega (arith, leb-true b (partition_of partitions k) parts.0))) (lower a b le ks parts.1)
+
+  -- keys of one partition: none is stored in a lower one
+  from_own : (here : ℕ) (ks : List Key) → list_all (at here) ks ≡ true → list_all (from here) ks ≡ true
+  from_own here [] h = refl
+  from_own here (k ∷ ks) h =
+      let parts = and_parts (at here k) (list_all (at here) ks) h in
+      and_from (from here k) (list_all (from here) ks) (le-leb here (partition_of partitions k) (omega (arith, eqb-true (partition_of partitions k) here parts.0))) (from_own here ks parts.1)
 
   -- the least partition of some keys
   abbrev IsLeastOf : List Key → ℕ → Type 0
@@ -157,6 +178,14 @@ module _ (partitions : ℕ) where
         serves_by_least writes true mine = and_right (list_any (at here) t.sets.reads) (nat_lt 0 (length (other_active (site partitions here) t))) (ap (nat_lt 0) (runs_here_alone writes mine))
         serves_by_least writes false other = and_from (list_any (at here) t.sets.reads) (nat_lt 0 (length (other_active (site partitions here) t))) reads (runs_at_the_least other)
 
+        -- the same, by what it reads alone
+        pub serves_by_reads : list_all (at here) t.sets.writes ≡ true → (b : Bool) → list_all (from here) t.sets.reads ≡ b → (list_any (at here) t.sets.reads && nat_lt 0 (length (other_active (site partitions here) t))) ≡ not b
+        serves_by_reads writes b below =
+            serves_by_least writes b (
+            ap (λ c. c && list_all (from here) (declared_keys t)) there ∙ list_all-append (from here) t.sets.reads t.sets.writes
+            ∙ ap (λ c. list_all (from here) t.sets.reads && c) (from_own here t.sets.writes writes) ∙ and_all (list_all (from here) t.sets.reads) ∙ below
+            )
+
   module _ {Args Row : Type 0} (here : ℕ) (x : Turn Args Row) where
     -- all that it reads is stored here: then no rows are to come
     pub awaits_none : list_all (at here) x.request.sets.reads ≡ true → length (awaited (site partitions here) x) ≡ 0
@@ -170,6 +199,13 @@ module _ (partitions : ℕ) where
             go false e =
                 fourth (not (is_finished x.phase)) (is_active (site partitions here) x.request) (not (p == here)) (list_any (at p) x.request.sets.reads) (not (is_some (get x.came p)))
                 (elsewhere here p (λ s. false≢true (sym e ∙ eq-eqb p here s)) x.request.sets.reads all)
+
+    -- it is done: the same
+    pub done_awaits_none : is_finished x.phase ≡ true → length (awaited (site partitions here) x) ≡ 0
+    done_awaits_none done =
+        none_pass (awaits (site partitions here) x)
+        (λ p. first (not (is_finished x.phase)) (is_active (site partitions here) x.request) (not (p == here)) (list_any (at p) x.request.sets.reads) (not (is_some (get x.came p))) (not_from_true (is_finished x.phase) done))
+        (range_with_len 0 partitions)
 
     -- it isn't run here: the same
     pub passive_awaits_none : is_active (site partitions here) x.request ≡ false → length (awaited (site partitions here) x) ≡ 0

@@ -1,18 +1,19 @@
 -- The rows of a request's keys: one key more, what each key has, and those that are all stored here.
 use Rattle.std.proofs.Common.{◌≡◌, ℕ, suc, ◌+◌, ◌≤◌, Bool, true, false, cond, ◌||◌, List, [], ◌∷◌, length, drop, Option, Some, None, refl, sym, ap, ◌∙◌, arith}
-use Rattle.std.proofs.lemmas.Bool.{false≢true, and_parts}
+use Rattle.std.proofs.lemmas.Bool.{false≢true, false_from_ne_true, and_parts}
 use Rattle.std.specs.Prelude.{unwrap_or}
 use Rattle.std.specs.Cmp.{Equal-is}
 use Rattle.std.specs.List.{list_all, slice_get}
-use Rattle.std.specs.FinMap.{get, len, insert, empty, get-insert, get-empty, len-empty, same_map}
+use Rattle.std.specs.FinMap.{get, len, insert, empty, get-insert, get-empty, get-retain_keys, len-empty, same_map}
 use Rattle.std.specs.Ordering.{eq_by_cmp}
 use Rattle.calvin_types.specs.declared.key.Key.{Key}
 use Rattle.calvin_types.specs.KeyOrder.{key_cmp_exact, key_cmp_total}
 use Rattle.calvin_types.specs.Keys.{key_cmp, has, partition_of}
 use Rattle.calvin_types.specs.Participants.{Site, is_local, local_keys}
 use Rattle.calvin_types.proofs.Fews.{drop_at}
-use Rattle.calvin_app.specs.Rows.{Rows, view}
+use Rattle.calvin_app.specs.Rows.{Rows, view, part}
 use Rattle.calvin_app.proofs.Views.{get-view, len-insert-le}
+use Rattle.calvin_lock.proofs.LocalLocks.{has_local}
 use Rattle.calvin_sched.specs.Scheduling.{Turn, gathered, put_some, piece}
 
 module _ {Row : Type 0} (pieces : Key → Rows Row) (ks : List Key) (i : ℕ) (k : Key) (here : slice_get ks i ≡ Some k) where
@@ -64,6 +65,25 @@ local_has site (x ∷ keys) k h = go (is_local site x) refl (eq_by_cmp key_cmp k
     go false l false e h rest = ((rest h).0, ap (λ b. b || has keys k) e ∙ (rest h).1)
 
 module _ {Row : Type 0} (here : Site) where
+  -- of the rows that are stored here, what a key has
+  pub get-part : (rows : Rows Row) (k : Key) → get (part here.partitions here.partition rows) k ≡ cond (is_local here k) (get rows k) None
+  get-part rows k = get-retain_keys rows (is_local here) k (λ x same. ap (is_local here) (sym (key_cmp_exact k x same)))
+
+  -- those that are stored here, and of some keys: the rows of the keys that are stored here
+  pub part_view : (rows : Rows Row) (keys : List Key) → view (part here.partitions here.partition rows) keys ≡ view rows (local_keys here keys)
+  part_view rows keys = same_map key_cmp_total key_cmp_exact _ _ (λ k.
+      get-view (part here.partitions here.partition rows) keys k ∙ ap (λ o. cond (has keys k) o None) (get-part rows k) ∙ go k (has keys k) refl (is_local here k) refl
+      ∙ sym (get-view rows (local_keys here keys) k))
+    where
+      none : (k : Key) → ((is_local here k ≡ true) × (has keys k ≡ true) → ⊥) → None ≡ cond (has (local_keys here keys) k) (get rows k) None
+      none k never = sym (ap (λ b. cond b (get rows k) None) (false_from_ne_true (has (local_keys here keys) k) (λ h. never (local_has here keys k h))))
+
+      go : (k : Key) (b : Bool) → has keys k ≡ b → (d : Bool) → is_local here k ≡ d → cond b (cond d (get rows k) None) None ≡ cond (has (local_keys here keys) k) (get rows k) None
+      go k true h true l = sym (ap (λ b. cond b (get rows k) None) (has_local here keys k l h))
+      go k true h false l = none k (λ both. false≢true (sym l ∙ both.0))
+      go k false h true l = none k (λ both. false≢true (sym h ∙ both.1))
+      go k false h false l = none k (λ both. false≢true (sym h ∙ both.1))
+
   -- what a request read here are rows of keys that it reads
   pub own_rows : (rows : Rows Row) (reads : List Key) → gathered (λ _. view rows (local_keys here reads)) reads ≡ view rows (local_keys here reads)
   own_rows rows reads = same_map key_cmp_total key_cmp_exact _ _ (λ k. get-gathered (λ _. mine) reads k ∙ go k (has reads k) refl)

@@ -1,32 +1,64 @@
 //! The rows that came from other partitions.
-ghost use Rattle.std.specs.Prelude.{◌≡◌, ◌-◌, ◌<◌, ◌≤◌, max, is_some, IsOk, OnOk, OnErr, IsOkUnless};
-ghost use Rattle.std.specs.Option.{option_copied};
+ghost use Rattle.std.specs.Prelude.{◌≡◌, ◌+◌, ◌-◌, ◌<◌, ◌≤◌, max, is_some, vec_len, vec_capacity, IsOk, OnOk, OnErr, IsOkUnless};
 ghost use Rattle.std.specs.FinMap as map;
+ghost use Rattle.std.specs.Ordering.{nat_cmp};
+ghost use Rattle.calvin_types.specs.declared.limits.TheConstants.{MOST_KEYS};
+ghost use Rattle.calvin_app.specs.Rows.{Rows};
+ghost use Rattle.calvin_sched.specs.Arrivals.{from_of, rows_from, with_arrival, came_by};
 
 use calvin_app::{App, View};
-use calvin_types::Fault;
+use calvin_types::{Fault, Key, MOST_KEYS};
 use std::alloc::Global;
 use std::marker::Model;
 
-/// At most one view of each partition. Room for some more can be reserved. They lie in a list that is looked through from its
-/// end, so that of two of one partition the later counts. There are no more than partitions that send some for the request.
+/// What came from a partition: one of its rows, or that it has none.
+#[derive(Clone, Copy)]
+enum Arrival<Row> {
+    /// It has no rows, whatever came from it before.
+    Nothing(u8),
+    /// It has this row alone, whatever came from it before.
+    First(u8, Key, Row),
+    /// It has this row too.
+    Further(u8, Key, Row),
+}
+
+impl<Row: Copy> Arrival<Row> {
+    /// The partition from which it came.
+    fn partition(&self) -> u8
+        ensures { result ≡ from_of self.now }
+    {
+        match *self {
+            Arrival::Nothing(from) => from,
+            Arrival::First(from, _, _) => from,
+            Arrival::Further(from, _, _) => from,
+        }
+    }
+}
+
+/// At most one view of each partition. The rows of all of them stand in one list, in the order in which they came, so that they
+/// take no more memory than they need, where a `View` has places for sixteen. Room for the views of some more partitions can be
+/// reserved, which is room for sixteen rows of each; what is left of it is given back when the last of them comes.
 #[derive(Drop)]
 pub struct Came<A: App> {
-    views: Vec<(u8, View<A::Row>)>,
+    arrivals: Vec<Arrival<A::Row>>,
+    room: usize,
 }
 
 impl<A: App> Model for Came<A> {
-    ghost use Rattle.std.specs.Prelude.{◌-◌, reverse, vec_len, vec_capacity};
-    ghost use Rattle.std.specs.FinMap.{from_entries};
+    ghost use Rattle.std.specs.Prelude.{◌+◌, ◌*◌, ◌≤◌, vec_len, vec_capacity};
     ghost use Rattle.std.specs.Coded.{codes};
     ghost use Rattle.std.specs.FinMap.{code};
+    ghost use Rattle.calvin_types.specs.declared.limits.TheConstants.{MOST_KEYS};
+    ghost use Rattle.calvin_sched.specs.Arrivals.{came_by};
     ghost use Rattle.calvin_sched.specs.Keeping as keeping;
 
     ghost Value = { keeping.Came A.Row };
 
     ghost coded = { Prim.hlevel (codes, code) };
 
-    ghost view = { λ c. record { rows = from_entries (reverse c.views.items); room = vec_capacity c.views - vec_len c.views } };
+    ghost view = { λ c. record { rows = came_by c.arrivals.items; room = c.room } };
+
+    ghost invariant = { λ c. vec_len c.arrivals + c.room * MOST_KEYS ≤ vec_capacity c.arrivals };
 }
 
 impl<A: App> Came<A> {
@@ -35,38 +67,44 @@ impl<A: App> Came<A> {
         ensures { result ≡ record { rows = map.empty; room = 0 } }
     {
         Came {
-            views: Vec::new(alloc),
+            arrivals: Vec::new(alloc),
+            room: 0,
         }
-    }
-
-    /// The rows of a partition.
-    pub fn get(&self, partition: u8) -> Option<&View<A::Row>>
-        ensures { option_copied result ≡ map.get self.now.rows partition }
-    {
-        let mut i = self.views.len();
-        while i > 0 {
-            i -= 1;
-            let view = &self.views[i];
-            if partition == view.0 {
-                return Some(&view.1);
-            }
-        }
-        None
     }
 
     /// Whether rows of a partition came.
     pub fn has(&self, partition: u8) -> bool
         ensures { result ≡ is_some (map.get self.now.rows partition) }
     {
-        self.get(partition).is_some()
+        for i in 0..self.arrivals.len() {
+            if self.arrivals[i].partition() == partition {
+                return true;
+            }
+        }
+        false
     }
 
-    /// Puts the rows of a partition. There is room for them.
-    pub fn insert(&mut self, partition: u8, view: View<A::Row>)
-        requires { 0 < self.old.room }
-        ensures { self.new ≡ record { rows = map.insert self.old.rows partition view; room = self.old.room - 1 } }
+    /// The row of a key among those that came from a partition, if it has one.
+    pub fn row(&self, partition: u8, key: &Key) -> Option<A::Row>
+        ensures { result ≡ map.get (rows_from self.now.rows partition) key.now }
     {
-        self.views.push_reserved((partition, view));
+        let mut row = None;
+        for i in 0..self.arrivals.len() {
+            row = row_after(row, &self.arrivals[i], partition, key);
+        }
+        row
+    }
+
+    /// Puts the rows of a partition, in place of those that came from it before. There is room for them.
+    pub fn insert(&mut self, partition: u8, view: &View<A::Row>)
+        requires { 0 < self.old.room }
+        ensures { self.new ≡ record { rows = map.insert self.old.rows partition view.now; room = self.old.room - 1 } }
+    {
+        push_view(&mut self.arrivals, partition, view);
+        self.room -= 1;
+        if self.room == 0 {
+            self.arrivals.shrink_to_fit();
+        }
     }
 
     /// Room for the rows of so many partitions at least.
@@ -76,7 +114,54 @@ impl<A: App> Came<A> {
         ensures only { IsOkUnless result Fault.OutOfMemory }
         ensures succeeds { partitions ≤ self.old.room → IsOk result }
     {
-        self.views.reserve_exact(partitions)?;
+        if partitions <= self.room {
+            return Ok(());
+        }
+        self.arrivals
+            .reserve_exact(partitions.saturating_mul(MOST_KEYS))?;
+        self.room = partitions;
         Ok(())
+    }
+}
+
+/// The row of a key among those of a partition, with one arrival more than where it was `before`.
+fn row_after<Row: Copy>(
+    before: Option<Row>,
+    arrival: &Arrival<Row>,
+    partition: u8,
+    key: &Key,
+) -> Option<Row>
+    ensures { (came : map.FinMap nat_cmp (Rows Row)) → before ≡ map.get (rows_from came partition) key.now
+        → result ≡ map.get (rows_from (with_arrival came arrival.now) partition) key.now }
+{
+    if arrival.partition() != partition {
+        return before;
+    }
+    match *arrival {
+        Arrival::Nothing(_) => None,
+        Arrival::First(_, k, row) => if *key == k { Some(row) } else { None },
+        Arrival::Further(_, k, row) => if *key == k { Some(row) } else { before },
+    }
+}
+
+/// The rows of a partition are put behind all others, in place of those that came from it before. There is room for sixteen.
+fn push_view<Row: Copy>(arrivals: &mut Vec<Arrival<Row>>, partition: u8, view: &View<Row>)
+    requires { vec_len arrivals.old + MOST_KEYS ≤ vec_capacity arrivals.old }
+    ensures rows { came_by arrivals.new.items ≡ map.insert (came_by arrivals.old.items) partition view.now }
+    ensures len { vec_len arrivals.new ≤ vec_len arrivals.old + MOST_KEYS }
+    ensures capacity { vec_capacity arrivals.new ≡ vec_capacity arrivals.old }
+{
+    if view.len() == 0 {
+        arrivals.push_reserved(Arrival::Nothing(partition));
+        return;
+    }
+    for i in 0..view.len() {
+        let (key, row) = view.at(i);
+        let arrival = if i == 0 {
+            Arrival::First(partition, key, row)
+        } else {
+            Arrival::Further(partition, key, row)
+        };
+        arrivals.push_reserved(arrival);
     }
 }

@@ -14,6 +14,7 @@ mod reading;
 mod running;
 mod scheduler;
 mod serving;
+mod sites;
 mod snapshots;
 mod telling;
 mod turn;

@@ -162,9 +162,9 @@ impl<A: App, L: Locks + Drop, S: Rows<A::Row> + Drop> Scheduler<A, L, S> {
         Ok(turn)
     }
 
-    /// Whether a request is admitted here, and not refused or passed over: its place is after the last one, and a key is
-    /// stored here.
-    fn takes(&self, place: Place, txn: &Txn<A::Args>) -> bool
+    /// Whether a request is admitted here, and not refused or passed over: its place is after the last one and not of an epoch
+    /// before the opening one, and a key is stored here.
+    pub fn takes(&self, place: Place, txn: &Txn<A::Args>) -> bool
         ensures { result ≡ (is_past self.now.scheduling.last place && not (is_before place self.now.scheduling.opened_from) && has_local_key self.now.here txn.now) }
     {
         self.is_next(place) && txn.is_participant(&self.config, self.partition)
@@ -182,22 +182,12 @@ impl<A: App, L: Locks + Drop, S: Rows<A::Row> + Drop> Scheduler<A, L, S> {
             return self.pass_over(place, txn);
         }
         let txn = SharedTxn::of(self.alloc, txn)?;
-        self.admit_here(place, txn)
+        self.admit_shared(place, txn)
     }
 
-    /// The same as `admit`, of a request that isn't copied: it stays in the memory in which it lies.
-    pub fn admit_shared(&mut self, place: Place, txn: SharedTxn<A::Args>) -> Result<(), Fault>
-        ensures did { Did (has_local_key self.old.here txn) result (steps.admit self.old.here place txn self.old.scheduling) self.old.scheduling self.new.scheduling }
-        ensures rest { self.new ≡ record self.old { scheduling = self.new.scheduling } }
-    {
-        if !self.takes(place, txn.get()) {
-            return self.pass_over(place, txn.get());
-        }
-        self.admit_here(place, txn)
-    }
-
-    /// Refuses a request whose place isn't after the last one, and passes over one with no key here: it is one of these.
-    fn pass_over(&mut self, place: Place, txn: &Txn<A::Args>) -> Result<(), Fault>
+    /// The same as `admit`, of a request that isn't admitted here, as `takes` tells: it is refused with `AdmittedOutOfOrder`, or
+    /// passed over. It takes no memory.
+    pub fn pass_over(&mut self, place: Place, txn: &Txn<A::Args>) -> Result<(), Fault>
         requires { (is_past self.old.scheduling.last place && not (is_before place self.old.scheduling.opened_from) && has_local_key self.old.here txn.now) ≡ false }
         ensures did { Did (has_local_key self.old.here txn.now) result (steps.admit self.old.here place txn.now self.old.scheduling) self.old.scheduling self.new.scheduling }
         ensures rest { self.new ≡ record self.old { scheduling = self.new.scheduling } }
@@ -209,9 +199,9 @@ impl<A: App, L: Locks + Drop, S: Rows<A::Row> + Drop> Scheduler<A, L, S> {
         Ok(())
     }
 
-    /// Admits a request with a key here at a place that is after the last one. Refused with `OutOfMemory` where a growth was
-    /// refused.
-    fn admit_here(&mut self, place: Place, txn: SharedTxn<A::Args>) -> Result<(), Fault>
+    /// The same as `admit`, of a request that is admitted here, as `takes` tells, and isn't copied: it stays in the memory in
+    /// which it lies. Refused with `OutOfMemory` where a growth was refused.
+    pub fn admit_shared(&mut self, place: Place, txn: SharedTxn<A::Args>) -> Result<(), Fault>
         requires { (is_past self.old.scheduling.last place && not (is_before place self.old.scheduling.opened_from) && has_local_key self.old.here txn) ≡ true }
         ensures did { Did (has_local_key self.old.here txn) result (steps.admit self.old.here place txn self.old.scheduling) self.old.scheduling self.new.scheduling }
         ensures rest { self.new ≡ record self.old { scheduling = self.new.scheduling } }

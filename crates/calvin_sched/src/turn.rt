@@ -1,9 +1,9 @@
 //! An admitted request.
-ghost use Rattle.std.specs.Prelude.{◌≡◌, if◌then◌else◌, ◌<◌, ◌≤◌, ◌-◌, ◌||◌, ◌&&◌, ◌==◌, not, is_some, Some, max, length, IsTrue, IfOk, OnOk, OnErr, IsOkUnless};
+ghost use Rattle.std.specs.Prelude.{◌≡◌, if◌then◌else◌, ◌<◌, ◌≤◌, ◌-◌, ◌||◌, is_some, Some, max, length, IsTrue, IfOk, OnOk, OnErr, IsOkUnless};
 ghost use Rattle.std.specs.List.{list_all};
 ghost use Rattle.std.specs.FinMap as map;
 ghost use Rattle.calvin_types.specs.Keys.{partition_of};
-ghost use Rattle.calvin_types.specs.Participants.{site, is_local, local_keys, is_active};
+ghost use Rattle.calvin_types.specs.Participants.{site, is_local, local_keys};
 ghost use Rattle.calvin_app.specs.Rows.{view};
 ghost use Rattle.calvin_sched.specs.Keeping.{awaited};
 ghost use Rattle.calvin_sched.specs.Scheduling.{new_turn, is_finished, awaits, is_collected, piece, whole_view, other_active, serves_others};
@@ -14,7 +14,8 @@ use crate::came::Came;
 use crate::phase::Phase;
 use crate::reading::Reading;
 use crate::serving::Serving;
-use calvin_app::{App, View, look_up};
+use crate::sites::{running, storing};
+use calvin_app::{App, View};
 use calvin_row_list::RowList;
 use calvin_shared_txn::SharedTxn;
 use calvin_store::Rows;
@@ -106,7 +107,14 @@ impl<A: App> Turn<A> {
         self.phase == Phase::Done
     }
 
-    /// The rows that were read here.
+    /// The rows that were read here, where they stand.
+    pub fn rows(&self) -> &RowList<A::Row>
+        ensures { result.now.rows ≡ self.now.turn.served }
+    {
+        &self.served
+    }
+
+    /// The rows that were read here, as a view.
     pub fn served(&self) -> View<A::Row>
         ensures { result ≡ self.now.turn.served }
     {
@@ -136,9 +144,13 @@ impl<A: App> Turn<A> {
         if !self.txn().is_active(config, partition) {
             return 0;
         }
+        if self.is_done() {
+            return 0;
+        }
+        let sends = storing(self.reads(), config);
         let mut count = 0;
         for from in 0..config.partitions {
-            if self.awaits(config, partition, from) {
+            if from != partition && sends[from as usize] && !self.came.has(from) {
                 count += 1;
             }
         }
@@ -177,10 +189,7 @@ impl<A: App> Turn<A> {
         if from == partition {
             return self.served.get(key);
         }
-        match self.came.get(from) {
-            Some(rows) => rows.get(key),
-            None => None,
-        }
+        self.came.row(from, key)
     }
 
     /// Whether what was read here are the rows of all keys that it reads, as all of these are stored here.
@@ -215,23 +224,14 @@ impl<A: App> Turn<A> {
         whole
     }
 
-    /// Whether another partition runs the request too.
-    fn is_run_at(&self, config: &Config, partition: u8, other: u8) -> bool
-        ensures { result ≡ (not (other == partition) && is_active (site config.now.partitions other) self.now.turn.request) }
-    {
-        if other == partition {
-            return false;
-        }
-        self.txn().is_active(config, other)
-    }
-
     /// The other partitions that run the request, ascending.
     pub fn others(&self, config: &Config, partition: u8) -> Few<u8>
         ensures { result ≡ other_active (site config.now.partitions partition) self.now.turn.request }
     {
+        let runs = running(self.txn(), config);
         let mut others = Few::new();
         for other in 0..config.partitions {
-            if self.is_run_at(config, partition, other) {
+            if other != partition && runs[other as usize] {
                 others.push(other);
             }
         }
@@ -250,7 +250,7 @@ impl<A: App> Turn<A> {
         if !are_here(&txn.sets.writes, config, partition) {
             return true;
         }
-        !txn.is_least_participant(config, partition)
+        !txn.sets.reads.is_none_below(config, partition)
     }
 
     /// Reads what is stored here.
@@ -258,10 +258,12 @@ impl<A: App> Turn<A> {
         ensures turn { self.new.turn ≡ record self.old.turn { served = view (S.store rows.now).map (local_keys (site config.now.partitions partition) self.old.turn.request.sets.reads) } }
         ensures room { self.new.room ≡ self.old.room }
     {
-        let keys = self.reads().part(config, partition);
-        let mut seen = View::new();
-        look_up(&Reading { rows }, &keys, &mut seen);
-        self.served.set(&seen);
+        let here = Reading {
+            rows,
+            config,
+            partition,
+        };
+        self.served.read(&here, &self.request.get().sets.reads);
     }
 
     /// Reads what is stored here. Where the request is passive here it is done, as others run it.
@@ -291,7 +293,7 @@ impl<A: App> Turn<A> {
         ensures turn { self.new.turn ≡ with_rows from rows.now self.old.turn }
         ensures room { self.new.room ≡ self.old.room - 1 }
     {
-        self.came.insert(from, *rows);
+        self.came.insert(from, rows);
     }
 
     /// It did all that it does here.

@@ -1,3 +1,4 @@
 pub mod Leading
+pub mod Telling
 pub mod Passing
 mod Looking

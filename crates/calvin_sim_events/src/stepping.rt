@@ -2,9 +2,10 @@
 ghost use Rattle.std.specs.Prelude.{◌≡◌, ◌≢◌, true, false, ℕ, Bool, length, is_some, IfOk, OnOk, OnErr, IsOkUnless};
 ghost use Rattle.calvin_types.specs.declared.fault.Fault.TheVariants.{OutOfMemory};
 ghost use Rattle.calvin_report.specs.Reports.{is_lost};
+ghost use Rattle.calvin_node_acts.specs.declared.act.Act.TheVariants.{Lock, Begin, Finish};
 ghost use Rattle.calvin_world.specs.declared.event.Event.TheVariants.{At, Deliver};
 ghost use Rattle.calvin_world.specs.declared.event.Outcome.TheVariants.{Refused};
-ghost use Rattle.calvin_world.specs.SettledWorlds.{SettledStep};
+ghost use Rattle.calvin_world.specs.SettledWorlds.{outcome_of, SettledStep};
 ghost use Rattle.calvin_sim_events.specs.declared.schedule.Restarts.{Restarts};
 ghost use Rattle.calvin_sim_events.specs.declared.schedule.Restarts.TheVariants.{Never};
 ghost use Rattle.calvin_sim_events.specs.Passes.{is_due, IsRedelivery};
@@ -14,7 +15,7 @@ use calvin_app::App;
 use calvin_node::Act;
 use calvin_node_packets::Address;
 use calvin_report::is_lost;
-use calvin_types::{Fault, NodeId};
+use calvin_types::{Fault, NodeId, Place};
 use calvin_world::{Event, Outcome, StoreWorld, outcome_of};
 
 /// Lets an event happen, and says how it ended: never for want of memory. Refused with `OutOfMemory` alone, where the event
@@ -30,11 +31,7 @@ pub(crate) fn attempt<A: App + Drop>(
     ensures step { IfOk result (λ outcome. SettledStep A.meaning world.old event.now outcome world.new × (outcome ≢ Refused OutOfMemory)) }
     ensures only { IsOkUnless result Fault.OutOfMemory }
 {
-    let outcome = outcome_of(world.step(event));
-    if outcome == Outcome::Refused(Fault::OutOfMemory) {
-        return Err(Fault::OutOfMemory);
-    }
-    Ok(outcome)
+    without_want(world.step(event))
 }
 
 /// Lets a node act without a submission, a closing or a restart, as those do that bring the nodes on, and says how that ended: never
@@ -49,21 +46,61 @@ pub(crate) fn happen_at<A: App + Drop>(
     ensures want { OnErr result (LeadsToWant A.meaning Never everyone world.old world.new) }
     ensures only { IsOkUnless result Fault.OutOfMemory }
 {
-    happen(world, &Event::At(id, act))
+    attempt(world, &Event::At(id, act))
 }
 
-/// The same of an event that stands somewhere, which isn't a delivery of a lost packet.
-pub(crate) fn happen<A: App + Drop>(
+/// Lets the next merged request of a node ask for its locks, and says how that ended: never for want of memory. Refused with
+/// `OutOfMemory` alone, where the event was.
+pub(crate) fn lock_at<A: App + Drop>(
     world: &mut StoreWorld<A>,
-    event: &Event<A::Args>,
+    id: NodeId,
 ) -> Result<Outcome, Fault>
-    requires allowed { is_allowed Never event.now ≡ true }
-    requires kept { is_lossy everyone world.old.packets event.now ≡ false }
     ensures quiet { OnOk result (LeadsQuietly A.meaning Never everyone world.old world.new) }
     ensures want { OnErr result (LeadsToWant A.meaning Never everyone world.old world.new) }
+    ensures step { IfOk result (λ outcome. SettledStep A.meaning world.old (At id Lock) outcome world.new × (outcome ≢ Refused OutOfMemory)) }
     ensures only { IsOkUnless result Fault.OutOfMemory }
 {
-    attempt(world, event)
+    without_want(world.lock(id))
+}
+
+/// The same of a request that begins at a place.
+pub(crate) fn begin_at<A: App + Drop>(
+    world: &mut StoreWorld<A>,
+    id: NodeId,
+    place: Place,
+) -> Result<Outcome, Fault>
+    ensures quiet { OnOk result (LeadsQuietly A.meaning Never everyone world.old world.new) }
+    ensures want { OnErr result (LeadsToWant A.meaning Never everyone world.old world.new) }
+    ensures step { IfOk result (λ outcome. SettledStep A.meaning world.old (At id (Begin place)) outcome world.new × (outcome ≢ Refused OutOfMemory)) }
+    ensures only { IsOkUnless result Fault.OutOfMemory }
+{
+    without_want(world.begin(id, place))
+}
+
+/// The same of a request that is finished at a place.
+pub(crate) fn finish_at<A: App + Drop>(
+    world: &mut StoreWorld<A>,
+    id: NodeId,
+    place: Place,
+) -> Result<Outcome, Fault>
+    ensures quiet { OnOk result (LeadsQuietly A.meaning Never everyone world.old world.new) }
+    ensures want { OnErr result (LeadsToWant A.meaning Never everyone world.old world.new) }
+    ensures step { IfOk result (λ outcome. SettledStep A.meaning world.old (At id (Finish place)) outcome world.new × (outcome ≢ Refused OutOfMemory)) }
+    ensures only { IsOkUnless result Fault.OutOfMemory }
+{
+    without_want(world.finish(id, place))
+}
+
+/// How an event ended, if not for want of memory. Refused with `OutOfMemory` where it did.
+fn without_want(answer: Result<(), Fault>) -> Result<Outcome, Fault>
+    ensures ok { IfOk result (λ outcome. (outcome ≡ outcome_of answer) × (outcome ≢ Refused OutOfMemory)) }
+    ensures want { OnErr result (outcome_of answer ≡ Refused OutOfMemory) }
+    ensures only { IsOkUnless result Fault.OutOfMemory }
+{
+    match outcome_of(answer) {
+        Outcome::Refused(Fault::OutOfMemory) => Err(Fault::OutOfMemory),
+        outcome => Ok(outcome),
+    }
 }
 
 /// Delivers the packet of a number, if it is for a node and not of the replica whose packets are lost. Says which node it reached,

@@ -6,18 +6,31 @@ ghost use Rattle.calvin_sim_events.specs.Passes.{IsRedelivery, Repeats};
 ghost use Rattle.calvin_sim_events.specs.Quiet.{everyone, LeadsQuietly, LeadsToWant};
 
 use crate::schedule::Schedule;
-use crate::stepping::{deliver, happen, happen_at, sent};
+use crate::stepping::{begin_at, deliver, finish_at, happen_at, lock_at, sent};
 use calvin_app::App;
 use calvin_node::Act;
 use calvin_types::{Config, Fault, NodeId, Place};
-use calvin_world::{Event, Outcome, StoreWorld};
+use calvin_world::{Outcome, StoreWorld};
 use std::alloc::Global;
 
-/// A node, and whether something reached it since it last worked.
+/// A node, whether something reached it since it last worked, and the greatest place whose request was run there, if one was. That
+/// place only decides which of two events is asked for first: at a greater place the request begins, and is then finished; up to it,
+/// it is finished, and begins only where it is refused that since it hasn't begun.
 #[derive(Clone, Copy)]
 pub(crate) struct Seat {
     pub id: NodeId,
     is_woken: bool,
+    last_run: Option<Place>,
+}
+
+impl Seat {
+    /// Whether a place is greater than all whose requests were run here.
+    fn is_past_last_run(&self, place: Place) -> bool {
+        match self.last_run {
+            Some(last) => last < place,
+            None => true,
+        }
+    }
 }
 
 /// All nodes, replica by replica, and how many packets were delivered so far, one after another.
@@ -39,6 +52,7 @@ impl Crew {
             seats.push(Seat {
                 id: id_at(config, i),
                 is_woken: true,
+                last_run: None,
             })?;
         }
         Ok(Crew {
@@ -94,7 +108,7 @@ impl Crew {
         Ok(())
     }
 
-    /// Each node that is to work does, replica by replica; one that merged an epoch is to work again.
+    /// Each node that is to work does, replica by replica; one that got on is to work again.
     #[tactic(auto, using(crate::proofs::Leading::quiet_here, crate::proofs::Leading::quiet_then, crate::proofs::Leading::want_then))]
     fn work<A: App + Drop>(&mut self, world: &mut StoreWorld<A>) -> Result<(), Fault>
         ensures quiet { OnOk result (LeadsQuietly A.meaning Never everyone world.old world.new) }
@@ -103,7 +117,7 @@ impl Crew {
     {
         for seat in &mut self.seats {
             if seat.is_woken {
-                seat.is_woken = work_at(world, seat.id)?;
+                seat.is_woken = work_at(world, seat)?;
             }
         }
         Ok(())
@@ -134,8 +148,8 @@ impl Crew {
         self.delivered >= sent(world)
     }
 
-    /// Packets are delivered and nodes work until nothing is left to do. Each turn but the last delivers a packet or merges an
-    /// epoch, and of both there are fewer than 2^63.
+    /// Packets are delivered and nodes work until nothing is left to do. In each turn but the last a packet is delivered, an epoch
+    /// merged, or a request admitted or finished: of all these there are fewer than 2^64.
     #[tactic(auto, using(crate::proofs::Leading::quiet_here, crate::proofs::Leading::quiet_then, crate::proofs::Leading::want_then))]
     pub fn work_on<A: App + Drop>(
         &mut self,
@@ -188,7 +202,7 @@ fn id_at(config: &Config, at: usize) -> NodeId {
 }
 
 /// A node merges the next epoch, if it is decided, and lets all that is merged ask for its locks. Says whether an epoch was
-/// merged.
+/// merged, or a request asked.
 #[tactic(auto, using(crate::proofs::Leading::quiet_here, crate::proofs::Leading::quiet_then, crate::proofs::Leading::want_then))]
 fn admit<A: App + Drop>(world: &mut StoreWorld<A>, id: NodeId) -> Result<bool, Fault>
     ensures quiet { OnOk result (LeadsQuietly A.meaning Never everyone world.old world.new) }
@@ -196,64 +210,84 @@ fn admit<A: App + Drop>(world: &mut StoreWorld<A>, id: NodeId) -> Result<bool, F
     ensures only { IsOkUnless result Fault.OutOfMemory }
 {
     let merged = happen_at(world, id, Act::Merge)?;
-    lock_all(world, id)?;
-    Ok(merged == Outcome::Done)
+    let asked = lock_all(world, id)?;
+    Ok(asked || merged == Outcome::Done)
 }
 
-/// A node merges and admits what it can of the next epoch; then what is ready runs. Says whether an epoch was merged: there may
-/// be another one.
-#[tactic(auto, using(crate::proofs::Leading::quiet_here, crate::proofs::Leading::quiet_then, crate::proofs::Leading::want_then))]
-fn work_at<A: App + Drop>(world: &mut StoreWorld<A>, id: NodeId) -> Result<bool, Fault>
+/// What is ready at a node runs. Where none of it could be finished the node merges and admits what it can of the next epoch, and
+/// what is ready then runs: so that few requests are under way at once. Says whether anything was finished, merged or admitted:
+/// there may be more to do.
+#[tactic(auto, using(crate::proofs::Leading::quiet_here, crate::proofs::Leading::quiet_then, crate::proofs::Leading::want_then, crate::proofs::Leading::quiet_then_ok, crate::proofs::Leading::want_then_err))]
+fn work_at<A: App + Drop>(world: &mut StoreWorld<A>, seat: &mut Seat) -> Result<bool, Fault>
     ensures quiet { OnOk result (LeadsQuietly A.meaning Never everyone world.old world.new) }
     ensures want { OnErr result (LeadsToWant A.meaning Never everyone world.old world.new) }
     ensures only { IsOkUnless result Fault.OutOfMemory }
 {
-    let merged = admit(world, id)?;
-    run_ready(world, id)?;
-    Ok(merged)
+    if run_ready(world, seat)? {
+        return Ok(true);
+    }
+    admit_and_run(world, seat)
 }
 
-/// All that a node merged asks for its locks, one after another, until none is left: so 2^64 times are enough. The event is
-/// made once, since it has room for a request.
+/// A node merges and admits what it can of the next epoch; then what is ready runs. Says whether anything was merged or admitted.
 #[tactic(auto, using(crate::proofs::Leading::quiet_here, crate::proofs::Leading::quiet_then, crate::proofs::Leading::want_then))]
-fn lock_all<A: App + Drop>(world: &mut StoreWorld<A>, id: NodeId) -> Result<(), Fault>
+fn admit_and_run<A: App + Drop>(world: &mut StoreWorld<A>, seat: &mut Seat) -> Result<bool, Fault>
     ensures quiet { OnOk result (LeadsQuietly A.meaning Never everyone world.old world.new) }
     ensures want { OnErr result (LeadsToWant A.meaning Never everyone world.old world.new) }
     ensures only { IsOkUnless result Fault.OutOfMemory }
 {
-    let lock = Event::At(id, Act::Lock);
+    let admitted = admit(world, seat.id)?;
+    if admitted {
+        let _finished = run_ready(world, seat)?;
+    }
+    Ok(admitted)
+}
+
+/// All that a node merged asks for its locks, one after another, until none is left: so 2^64 times are enough. Says whether any
+/// did.
+#[tactic(auto, using(crate::proofs::Leading::quiet_here, crate::proofs::Leading::quiet_then, crate::proofs::Leading::want_then))]
+fn lock_all<A: App + Drop>(world: &mut StoreWorld<A>, id: NodeId) -> Result<bool, Fault>
+    ensures quiet { OnOk result (LeadsQuietly A.meaning Never everyone world.old world.new) }
+    ensures want { OnErr result (LeadsToWant A.meaning Never everyone world.old world.new) }
+    ensures only { IsOkUnless result Fault.OutOfMemory }
+{
+    let mut asked = false;
     for _ in 0..u64::MAX {
-        let Outcome::Done = happen(world, &lock)? else {
+        let Outcome::Done = lock_at(world, id)? else {
             break;
         };
+        asked = true;
     }
-    Ok(())
+    Ok(asked)
 }
 
 /// The requests of a node that have their locks run, in the order of their places, up to the epoch of the first that
 /// awaits rows. A request that is done gives its locks to later ones only, so one time over them is enough; there are
-/// fewer than 2^64.
+/// fewer than 2^64. Says whether one was finished.
 #[tactic(auto, using(crate::proofs::Leading::quiet_here, crate::proofs::Leading::quiet_then, crate::proofs::Leading::want_then))]
-fn run_ready<A: App + Drop>(world: &mut StoreWorld<A>, id: NodeId) -> Result<(), Fault>
+fn run_ready<A: App + Drop>(world: &mut StoreWorld<A>, seat: &mut Seat) -> Result<bool, Fault>
     ensures quiet { OnOk result (LeadsQuietly A.meaning Never everyone world.old world.new) }
     ensures want { OnErr result (LeadsToWant A.meaning Never everyone world.old world.new) }
     ensures only { IsOkUnless result Fault.OutOfMemory }
 {
     let mut after = None;
     let mut last_epoch = u64::MAX;
+    let mut finished = false;
     for _ in 0..u64::MAX {
-        let Some(place) = ready_after(world, id, after) else {
+        let Some(place) = ready_after(world, seat.id, after) else {
             break;
         };
         if place.epoch > last_epoch {
             break;
         }
-        if awaits(run(world, id, place)?) {
+        let outcome = run(world, seat, place)?;
+        if awaits(outcome) {
             last_epoch = place.epoch;
         }
+        finished = finished || outcome == Outcome::Done;
         after = Some(place);
     }
-    Ok(())
+    Ok(finished)
 }
 
 /// The least place of a node after another whose request has its locks and isn't done.
@@ -270,13 +304,51 @@ fn awaits(outcome: Outcome) -> bool {
     matches!(outcome, Outcome::Refused(Fault::ReadsMissing))
 }
 
-/// The request at a place begins, if it has not begun, and is finished if it can be.
-#[tactic(auto, using(crate::proofs::Leading::quiet_here, crate::proofs::Leading::quiet_then, crate::proofs::Leading::want_then, crate::proofs::Leading::quiet_then_ok, crate::proofs::Leading::want_then_err))]
-fn run<A: App + Drop>(world: &mut StoreWorld<A>, id: NodeId, place: Place) -> Result<Outcome, Fault>
+/// The request at a place is finished if it can be, and begins before that, if it has not begun.
+fn run<A: App + Drop>(
+    world: &mut StoreWorld<A>,
+    seat: &mut Seat,
+    place: Place,
+) -> Result<Outcome, Fault>
     ensures quiet { OnOk result (LeadsQuietly A.meaning Never everyone world.old world.new) }
     ensures want { OnErr result (LeadsToWant A.meaning Never everyone world.old world.new) }
     ensures only { IsOkUnless result Fault.OutOfMemory }
 {
-    let _begun = happen_at(world, id, Act::Begin(place))?;
-    happen_at(world, id, Act::Finish(place))
+    if seat.is_past_last_run(place) {
+        seat.last_run = Some(place);
+        return run_first(world, seat.id, place);
+    }
+    run_again(world, seat.id, place)
+}
+
+/// The request at a place is finished if it can be; where it has not begun it begins before that.
+#[tactic(auto, using(crate::proofs::Leading::quiet_here, crate::proofs::Leading::quiet_then, crate::proofs::Leading::want_then, crate::proofs::Leading::quiet_then_ok, crate::proofs::Leading::want_then_err))]
+fn run_again<A: App + Drop>(
+    world: &mut StoreWorld<A>,
+    id: NodeId,
+    place: Place,
+) -> Result<Outcome, Fault>
+    ensures quiet { OnOk result (LeadsQuietly A.meaning Never everyone world.old world.new) }
+    ensures want { OnErr result (LeadsToWant A.meaning Never everyone world.old world.new) }
+    ensures only { IsOkUnless result Fault.OutOfMemory }
+{
+    match finish_at(world, id, place)? {
+        Outcome::Refused(Fault::NotReady) => run_first(world, id, place),
+        outcome => Ok(outcome),
+    }
+}
+
+/// The request at a place begins, if it has not begun, and is finished if it can be.
+#[tactic(auto, using(crate::proofs::Leading::quiet_here, crate::proofs::Leading::quiet_then, crate::proofs::Leading::want_then, crate::proofs::Leading::quiet_then_ok, crate::proofs::Leading::want_then_err))]
+fn run_first<A: App + Drop>(
+    world: &mut StoreWorld<A>,
+    id: NodeId,
+    place: Place,
+) -> Result<Outcome, Fault>
+    ensures quiet { OnOk result (LeadsQuietly A.meaning Never everyone world.old world.new) }
+    ensures want { OnErr result (LeadsToWant A.meaning Never everyone world.old world.new) }
+    ensures only { IsOkUnless result Fault.OutOfMemory }
+{
+    let _begun = begin_at(world, id, place)?;
+    finish_at(world, id, place)
 }

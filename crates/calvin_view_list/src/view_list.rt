@@ -6,6 +6,7 @@ ghost use Rattle.std.specs.Prelude.{◌≡◌, ◌+◌, ◌<◌, ◌≤◌, ◌+
 ghost use Rattle.calvin_types.specs.declared.limits.TheConstants.{MOST_KEYS};
 
 use calvin_app::View;
+use calvin_row_list::RowList;
 use calvin_types::{Fault, Key, MOST_KEYS};
 use std::alloc::Global;
 use std::marker::Model;
@@ -87,6 +88,19 @@ impl<Row: Copy> ViewList<Row> {
     {
         for i in 0..view.len() {
             self.entries.push_reserved(view.at(i));
+        }
+        let end = self.entries.len();
+        self.ends.push_reserved(end);
+    }
+
+    /// One view more, which has the rows of a list, and for which there is room.
+    pub fn push_listed(&mut self, rows: &RowList<Row>)
+        requires { 0 < self.old.room }
+        ensures views { self.new.views ≡ self.old.views ++ rows.now.rows ∷ [] }
+        ensures room { self.old.room ≤ self.new.room + 1 }
+    {
+        for entry in rows.entries() {
+            self.entries.push_reserved(*entry);
         }
         let end = self.entries.len();
         self.ends.push_reserved(end);

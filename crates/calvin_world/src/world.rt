@@ -2,6 +2,7 @@
 ghost use Rattle.std.specs.Prelude.{◌≡◌, ℕ, ◌<◌, ◌*◌, ◌/◌, ◌%◌, length, map, IfOk, OnErr, IsOkUnless, MatchOption, None, Some, slice_get};
 ghost use Rattle.calvin_order.specs.Configs.{config_of};
 ghost use Rattle.calvin_node_acts.specs.Running.{Running};
+ghost use Rattle.calvin_node_acts.specs.declared.act.Act.TheVariants.{Lock, Begin, Finish};
 ghost use Rattle.calvin_world.specs.declared.event.Event.TheVariants.{At, Deliver};
 ghost use Rattle.calvin_world.specs.Histories.{LeadsOn, StaysChosen, EverStays, WasSubmitted, SubmittedBefore, StandsInTime, StandsLater};
 ghost use Rattle.calvin_world.specs.Jobs.{job_of, FinishedWith};
@@ -224,6 +225,39 @@ impl<A: App + Drop, L: Locks + Drop, S: Rows<A::Row> + Drop> World<A, L, S> {
             return Err(Fault::NoNode);
         };
         self.nodes[at].act(act, &self.app, &mut self.packets)
+    }
+
+    /// The next merged request of a node asks for its locks: the event `Lock`. Refused with `NoNode` where the node isn't there,
+    /// else as `Node::lock_next` is. Where it is refused nothing changed.
+    pub fn lock(&mut self, id: NodeId) -> Result<(), Fault>
+        ensures { SettledStep A.meaning self.old (At id Lock) (outcome_of result) self.new }
+    {
+        let Some(at) = self.index(id) else {
+            return Err(Fault::NoNode);
+        };
+        self.nodes[at].lock_next()
+    }
+
+    /// The request at a place of a node begins: the event `Begin`. Refused with `NoNode` where the node isn't there, else as
+    /// `Node::begin` is. Where it is refused nothing changed.
+    pub fn begin(&mut self, id: NodeId, place: Place) -> Result<(), Fault>
+        ensures { SettledStep A.meaning self.old (At id (Begin place)) (outcome_of result) self.new }
+    {
+        let Some(at) = self.index(id) else {
+            return Err(Fault::NoNode);
+        };
+        self.nodes[at].begin(place, &mut self.packets)
+    }
+
+    /// The request at a place of a node is run and finished: the event `Finish`. Refused with `NoNode` where the node isn't
+    /// there, else as `Node::finish` is. Where it is refused nothing changed.
+    pub fn finish(&mut self, id: NodeId, place: Place) -> Result<(), Fault>
+        ensures { SettledStep A.meaning self.old (At id (Finish place)) (outcome_of result) self.new }
+    {
+        let Some(at) = self.index(id) else {
+            return Err(Fault::NoNode);
+        };
+        self.nodes[at].finish(place, &self.app, &mut self.packets)
     }
 
     /// A packet comes to the node that it is for, and stays.

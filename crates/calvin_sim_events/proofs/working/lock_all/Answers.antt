@@ -4,5 +4,5 @@ use Rattle.calvin_sim_events.specs.Quiet.{everyone}
 use Rattle.calvin_sim_events.proofs.Leading.{want_then}
 use Rattle.calvin_sim_events.proofs.working.lock_all.Goals as goal
 
-pub returns-in_err-happen-clause-want : goal.returns-in_err-happen-clause-want
-returns-in_err-happen-clause-want g c = on_err _ c.from_residual.result (want_then g.A.App.meaning Never everyone _ _ _ c.loop.invariant c.in_err-happen.ensures.want)
+pub returns-in_err-lock_at-clause-want : goal.returns-in_err-lock_at-clause-want
+returns-in_err-lock_at-clause-want g c = on_err _ c.from_residual.result (want_then g.A.App.meaning Never everyone _ _ _ c.loop.invariant c.in_err-lock_at.ensures.want)

@@ -1,4 +1,3 @@
-use denote.Memory.{lone}
 use Rattle.std.proofs.Common.{◌≡◌, ◌<◌, ◌++◌, ◌∷◌, [], true, Ok, Err, refl, sym, ap, subst, ◌∙◌}
 use Rattle.std.proofs.lemmas.Result.{err_from_is_err_and}
 use Rattle.calvin_app.specs.declared.job.Job.{Job}
@@ -6,7 +5,6 @@ use Rattle.calvin_app.specs.Serial.{answer_on}
 use Rattle.calvin_sched.specs.Keeping.{IsNotRun}
 use Rattle.calvin_sched.specs.Progress.{left}
 use Rattle.calvin_sched.specs.Steps as steps
-use Rattle.calvin_node_packets.proofs.PacketSizes.{packet_of}
 use Rattle.calvin_node_packets.specs.declared.packet.Address.TheVariants.{AtClient}
 use Rattle.calvin_node_packets.specs.declared.packet.Content.TheVariants.{Replies}
 use Rattle.calvin_node_acts.specs.Acting as acting
@@ -19,8 +17,8 @@ use Rattle.calvin_node_acts.proofs.Beginning.{on_ok}
 use Rattle.calvin_node_acts.proofs.Ran.{not_run, ran}
 use Rattle.calvin_node.proofs.node.Node.finish.Goals as goal
 
-pub push_reserved-requires : goal.push_reserved-requires
-push_reserved-requires g c = (packet_of (lone g.row.A-Args.mir) (lone g.row.A-Row.mir) (lone g.row.A-Reply.mir) g.met.A.App.work_fits, on_ok c.reserve.result (0 < c.reserve.new.self.room) (sym c.is_err.ensures.value ∙ c.if-is_err.false) c.reserve.ensures.ok)
+pub push_answer-requires : goal.push_answer-requires
+push_answer-requires g c = on_ok c.reserve.result (0 < c.reserve.new.self.room) (sym c.is_err.ensures.value ∙ c.if-is_err.false) c.reserve.ensures.ok
 
 pub returns-in_err-name : goal.returns-in_err-name
 returns-in_err-name g c =
@@ -55,9 +53,9 @@ returns g c =
     let here = site_of config.partitions x in
     let told = subst (λ h. (j : Job g.row.A-Args.Denot g.row.A-Row.Denot) × (steps.job h c.args.place p.scheduler.scheduling ≡ Ok j) × (c.in_ok-name.name ≡ (j.txn.id, j.txn.attempt)) × (c.run.new.answer ≡ answer_on m j.txn j.view) × (s ≡ steps.after_job m h j p.scheduler.scheduling)) c.self.invariant.here c.in_ok-name.ensures.ok in
     record {
-      did = subst (λ v. NodeDid true (Ok tt) (acting.finish m v.config c.args.place v.state) v (running config (record x { scheduler = s; due = left s c.run.new.self.due })) sent c.push_reserved.new.self.packets) c.self.view_is
-          (subst (λ d. NodeDid true (Ok tt) (acting.finish m config c.args.place x) (running config x) (running config (record x { scheduler = s; due = d })) sent c.push_reserved.new.self.packets)
+      did = subst (λ v. NodeDid true (Ok tt) (acting.finish m v.config c.args.place v.state) v (running config (record x { scheduler = s; due = left s c.run.new.self.due })) sent c.push_answer.new.self.packets) c.self.view_is
+          (subst (λ d. NodeDid true (Ok tt) (acting.finish m config c.args.place x) (running config x) (running config (record x { scheduler = s; due = d })) sent c.push_answer.new.self.packets)
           (sym (left_then p.scheduler.scheduling s p.scheduler.due c.run.new.self.due c.in_ok-name.ensures.due c.due_is_undone.ensures))
-          (ran m config x c.args.place sent told.0 told.1 s told.4 c.in_ok-name.name told.2 c.run.new.answer told.3 c.push_reserved.new.self.packets
-          (c.push_reserved.ensures.packets ∙ (λ i. c.reserve.ensures.packets i ++ record { from = c.id.ensures i; to = AtClient c.in_ok-name.name.0.client; content = Replies c.args.place c.in_ok-name.name.0 c.in_ok-name.name.1 c.run.new.answer } ∷ []))));
+          (ran m config x c.args.place sent told.0 told.1 s told.4 c.in_ok-name.name told.2 c.run.new.answer told.3 c.push_answer.new.self.packets
+          (c.push_answer.ensures.packets ∙ (λ i. c.reserve.ensures.packets i ++ record { from = c.id.ensures i; to = AtClient c.in_ok-name.name.0.client; content = Replies c.args.place c.in_ok-name.name.0 c.in_ok-name.name.1 c.run.new.answer } ∷ []))));
     }

@@ -1,4 +1,3 @@
-use denote.Memory.{lone}
 use Rattle.std.proofs.Common.{◌≡◌, ◌<◌, ◌++◌, ◌∷◌, [], Ok, Err, inr, refl, sym, ap, subst, ◌∙◌}
 use Rattle.std.proofs.lemmas.Result.{err_from_is_err_and}
 use Rattle.calvin_sched.specs.Keeping.{Finished}
@@ -10,13 +9,12 @@ use Rattle.calvin_node_acts.specs.NodeStates.{site_of}
 use Rattle.calvin_node_acts.specs.Layers.{rest_of, state_of}
 use Rattle.calvin_order.specs.Configs.{over}
 use Rattle.calvin_node_acts.specs.Running.{NodeFinished}
-use Rattle.calvin_node_packets.proofs.PacketSizes.{packet_of}
 use Rattle.calvin_node_acts.proofs.Settling.{running, left_then, left_again, unchanged}
 use Rattle.calvin_node_acts.proofs.Beginning.{finished, on_ok, cause}
 use Rattle.calvin_node.proofs.node.Node.take_computed.Goals as goal
 
-pub push_reserved-requires : goal.push_reserved-requires
-push_reserved-requires g c = (packet_of (lone g.row.A-Args.mir) (lone g.row.A-Row.mir) (lone g.row.A-Reply.mir) g.met.A.App.work_fits, on_ok c.reserve.result (0 < c.reserve.new.self.room) (sym c.is_err.ensures.value ∙ c.if-is_err.false) c.reserve.ensures.ok)
+pub push_answer-requires : goal.push_answer-requires
+push_answer-requires g c = on_ok c.reserve.result (0 < c.reserve.new.self.room) (sym c.is_err.ensures.value ∙ c.if-is_err.false) c.reserve.ensures.ok
 
 pub returns-then-is_err : goal.returns-then-is_err
 returns-then-is_err g c =
@@ -59,8 +57,8 @@ returns g c =
     let sent = c.args.outbox.now.packets in
     let did = subst (λ h. Finished g.A.App.meaning h p.scheduler.room j (Ok c.in_ok-answer.answer) p.scheduler.scheduling s) c.self.invariant.here c.in_ok-answer.ensures.did in
     record {
-      did = subst (λ v. NodeFinished g.A.App.meaning j (Ok tt) v (running config (record x { scheduler = s; due = left s c.finish.new.self.due })) sent c.push_reserved.new.self.packets) c.self.view_is
-          (subst (λ d. NodeFinished g.A.App.meaning j (Ok tt) (running config x) (running config (record x { scheduler = s; due = d })) sent c.push_reserved.new.self.packets)
+      did = subst (λ v. NodeFinished g.A.App.meaning j (Ok tt) v (running config (record x { scheduler = s; due = left s c.finish.new.self.due })) sent c.push_answer.new.self.packets) c.self.view_is
+          (subst (λ d. NodeFinished g.A.App.meaning j (Ok tt) (running config x) (running config (record x { scheduler = s; due = d })) sent c.push_answer.new.self.packets)
           (sym (left_then p.scheduler.scheduling s p.scheduler.due c.finish.new.self.due c.in_ok-answer.ensures.due c.due_is_undone.ensures))
-          (finished g.A.App.meaning config x sent j did.0 s did.1 c.in_ok-answer.answer did.2 c.push_reserved.new.self.packets (c.push_reserved.ensures.packets ∙ (λ i. c.reserve.ensures.packets i ++ record { from = c.id.ensures i; to = AtClient j.txn.id.client; content = Replies j.place j.txn.id j.txn.attempt c.in_ok-answer.answer } ∷ []))));
+          (finished g.A.App.meaning config x sent j did.0 s did.1 c.in_ok-answer.answer did.2 c.push_answer.new.self.packets (c.push_answer.ensures.packets ∙ (λ i. c.reserve.ensures.packets i ++ record { from = c.id.ensures i; to = AtClient j.txn.id.client; content = Replies j.place j.txn.id j.txn.attempt c.in_ok-answer.answer } ∷ []))));
     }

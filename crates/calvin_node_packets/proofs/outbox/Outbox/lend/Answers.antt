@@ -1,8 +1,7 @@
 use denote.Memory.{lone}
-use Rattle.std.proofs.Common.{◌≡◌, ◌<◌, Some, slice_get, sym, ap, subst, refl, length, ◌∙◌}
+use Rattle.std.proofs.Common.{◌<◌, sym, ap, subst, refl, ◌∙◌}
 use Rattle.std.proofs.lemmas.Option.{same_Some}
 use Rattle.calvin_node_packets.specs.Keeping.{is_plain, said}
-use Rattle.calvin_node_packets.specs.Packets.{IsLent}
 use Rattle.calvin_node_packets.proofs.PacketSizes.{content_of}
 use Rattle.calvin_node_packets.proofs.KeptPackets.{lists_of, found_at, seen_below, seen_said, lent_listed, lent_kept, lent_plain}
 use Rattle.calvin_node_packets.proofs.outbox.Outbox.lend.Goals as goal

@@ -1,4 +1,4 @@
-use Rattle.std.proofs.Common.{refl, sym, ap, subst, slice_set, ◌≡◌, ◌∙◌, List, map}
+use Rattle.std.proofs.Common.{refl, sym, ap, subst, slice_set, ◌∙◌, map}
 use Rattle.calvin_node_packets.specs.Keeping.{AreKept, none, counts, restored}
 use Rattle.calvin_node_packets.specs.declared.kept.Kept.{Kept}
 use Rattle.calvin_node_packets.proofs.KeptPackets.{lists_of, found_at, within_kept, put_kept, put_nothing, put_packets}

@@ -1,6 +1,5 @@
 use denote.Memory.{lone}
-use Rattle.std.proofs.Common.{None, Some, ap, sym, slice_get, ◌∙◌}
-use Rattle.std.proofs.lemmas.Option.{slice_get_past}
+use Rattle.std.proofs.Common.{Some, ap, sym, slice_get, ◌∙◌}
 use Rattle.std.specs.Option.{option_map}
 use Rattle.calvin_node_packets.proofs.PacketSizes.{sent_of}
 use Rattle.calvin_node_packets.proofs.KeptPackets.{lists_of, found_at, packet_at, past_packets, seen_below, seen_said}
