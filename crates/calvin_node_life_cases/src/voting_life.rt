@@ -59,9 +59,14 @@ fn check_refused(
 /// The ballot of the vote that the packet of a number reports, if it is a promise with one.
 fn voted(nodes: &Nodes, number: usize) -> Option<Ballot> {
     match nodes.packets().sent(number) {
-        Some(Sent::Synod(Message::Promise {
-            vote: Some(vote), ..
-        })) => Some(vote.ballot),
+        Some(
+            Sent::Synod(
+                Message::Promise {
+                    vote: Some(vote),
+                    ..
+                },
+            ),
+        ) => Some(vote.ballot),
         _ => None,
     }
 }
