@@ -108,7 +108,7 @@ impl Crew {
         Ok(())
     }
 
-    /// Each node that is to work does, replica by replica; one that got on is to work again.
+    /// Each node that is to work does, replica by replica; one that merged an epoch is to work again.
     #[tactic(auto, using(crate::proofs::Leading::quiet_here, crate::proofs::Leading::quiet_then, crate::proofs::Leading::want_then))]
     fn work<A: App + Drop>(&mut self, world: &mut StoreWorld<A>) -> Result<(), Fault>
         ensures quiet { OnOk result (LeadsQuietly A.meaning Never everyone world.old world.new) }
@@ -148,8 +148,8 @@ impl Crew {
         self.delivered >= sent(world)
     }
 
-    /// Packets are delivered and nodes work until nothing is left to do. In each turn but the last a packet is delivered, an epoch
-    /// merged, or a request admitted or finished: of all these there are fewer than 2^64.
+    /// Packets are delivered and nodes work until nothing is left to do. Each turn but the last delivers a packet or merges an
+    /// epoch, and of both there are fewer than 2^63.
     #[tactic(auto, using(crate::proofs::Leading::quiet_here, crate::proofs::Leading::quiet_then, crate::proofs::Leading::want_then))]
     pub fn work_on<A: App + Drop>(
         &mut self,
@@ -202,7 +202,7 @@ fn id_at(config: &Config, at: usize) -> NodeId {
 }
 
 /// A node merges the next epoch, if it is decided, and lets all that is merged ask for its locks. Says whether an epoch was
-/// merged, or a request asked.
+/// merged.
 #[tactic(auto, using(crate::proofs::Leading::quiet_here, crate::proofs::Leading::quiet_then, crate::proofs::Leading::want_then))]
 fn admit<A: App + Drop>(world: &mut StoreWorld<A>, id: NodeId) -> Result<bool, Fault>
     ensures quiet { OnOk result (LeadsQuietly A.meaning Never everyone world.old world.new) }
@@ -210,69 +210,49 @@ fn admit<A: App + Drop>(world: &mut StoreWorld<A>, id: NodeId) -> Result<bool, F
     ensures only { IsOkUnless result Fault.OutOfMemory }
 {
     let merged = happen_at(world, id, Act::Merge)?;
-    let asked = lock_all(world, id)?;
-    Ok(asked || merged == Outcome::Done)
+    lock_all(world, id)?;
+    Ok(merged == Outcome::Done)
 }
 
-/// What is ready at a node runs. Where none of it could be finished the node merges and admits what it can of the next epoch, and
-/// what is ready then runs: so that few requests are under way at once. Says whether anything was finished, merged or admitted:
-/// there may be more to do.
-#[tactic(auto, using(crate::proofs::Leading::quiet_here, crate::proofs::Leading::quiet_then, crate::proofs::Leading::want_then, crate::proofs::Leading::quiet_then_ok, crate::proofs::Leading::want_then_err))]
+/// A node merges and admits what it can of the next epoch; then what is ready runs. Says whether an epoch was merged: there may
+/// be another one.
+#[tactic(auto, using(crate::proofs::Leading::quiet_here, crate::proofs::Leading::quiet_then, crate::proofs::Leading::want_then))]
 fn work_at<A: App + Drop>(world: &mut StoreWorld<A>, seat: &mut Seat) -> Result<bool, Fault>
     ensures quiet { OnOk result (LeadsQuietly A.meaning Never everyone world.old world.new) }
     ensures want { OnErr result (LeadsToWant A.meaning Never everyone world.old world.new) }
     ensures only { IsOkUnless result Fault.OutOfMemory }
 {
-    if run_ready(world, seat)? {
-        return Ok(true);
-    }
-    admit_and_run(world, seat)
+    let merged = admit(world, seat.id)?;
+    run_ready(world, seat)?;
+    Ok(merged)
 }
 
-/// A node merges and admits what it can of the next epoch; then what is ready runs. Says whether anything was merged or admitted.
+/// All that a node merged asks for its locks, one after another, until none is left: so 2^64 times are enough.
 #[tactic(auto, using(crate::proofs::Leading::quiet_here, crate::proofs::Leading::quiet_then, crate::proofs::Leading::want_then))]
-fn admit_and_run<A: App + Drop>(world: &mut StoreWorld<A>, seat: &mut Seat) -> Result<bool, Fault>
+fn lock_all<A: App + Drop>(world: &mut StoreWorld<A>, id: NodeId) -> Result<(), Fault>
     ensures quiet { OnOk result (LeadsQuietly A.meaning Never everyone world.old world.new) }
     ensures want { OnErr result (LeadsToWant A.meaning Never everyone world.old world.new) }
     ensures only { IsOkUnless result Fault.OutOfMemory }
 {
-    let admitted = admit(world, seat.id)?;
-    if admitted {
-        let _finished = run_ready(world, seat)?;
-    }
-    Ok(admitted)
-}
-
-/// All that a node merged asks for its locks, one after another, until none is left: so 2^64 times are enough. Says whether any
-/// did.
-#[tactic(auto, using(crate::proofs::Leading::quiet_here, crate::proofs::Leading::quiet_then, crate::proofs::Leading::want_then))]
-fn lock_all<A: App + Drop>(world: &mut StoreWorld<A>, id: NodeId) -> Result<bool, Fault>
-    ensures quiet { OnOk result (LeadsQuietly A.meaning Never everyone world.old world.new) }
-    ensures want { OnErr result (LeadsToWant A.meaning Never everyone world.old world.new) }
-    ensures only { IsOkUnless result Fault.OutOfMemory }
-{
-    let mut asked = false;
     for _ in 0..u64::MAX {
         let Outcome::Done = lock_at(world, id)? else {
             break;
         };
-        asked = true;
     }
-    Ok(asked)
+    Ok(())
 }
 
 /// The requests of a node that have their locks run, in the order of their places, up to the epoch of the first that
 /// awaits rows. A request that is done gives its locks to later ones only, so one time over them is enough; there are
-/// fewer than 2^64. Says whether one was finished.
+/// fewer than 2^64.
 #[tactic(auto, using(crate::proofs::Leading::quiet_here, crate::proofs::Leading::quiet_then, crate::proofs::Leading::want_then))]
-fn run_ready<A: App + Drop>(world: &mut StoreWorld<A>, seat: &mut Seat) -> Result<bool, Fault>
+fn run_ready<A: App + Drop>(world: &mut StoreWorld<A>, seat: &mut Seat) -> Result<(), Fault>
     ensures quiet { OnOk result (LeadsQuietly A.meaning Never everyone world.old world.new) }
     ensures want { OnErr result (LeadsToWant A.meaning Never everyone world.old world.new) }
     ensures only { IsOkUnless result Fault.OutOfMemory }
 {
     let mut after = None;
     let mut last_epoch = u64::MAX;
-    let mut finished = false;
     for _ in 0..u64::MAX {
         let Some(place) = ready_after(world, seat.id, after) else {
             break;
@@ -280,14 +260,12 @@ fn run_ready<A: App + Drop>(world: &mut StoreWorld<A>, seat: &mut Seat) -> Resul
         if place.epoch > last_epoch {
             break;
         }
-        let outcome = run(world, seat, place)?;
-        if awaits(outcome) {
+        if awaits(run(world, seat, place)?) {
             last_epoch = place.epoch;
         }
-        finished = finished || outcome == Outcome::Done;
         after = Some(place);
     }
-    Ok(finished)
+    Ok(())
 }
 
 /// The least place of a node after another whose request has its locks and isn't done.

@@ -1,8 +1,0 @@
-use Rattle.calvin_app.proofs.Results.{on_err}
-use Rattle.calvin_sim_events.specs.declared.schedule.Restarts.TheVariants.{Never}
-use Rattle.calvin_sim_events.specs.Quiet.{everyone}
-use Rattle.calvin_sim_events.proofs.Leading.{want_then}
-use Rattle.calvin_sim_events.proofs.working.admit_and_run.Goals as goal
-
-pub returns-in_err-_finished-clause-want : goal.returns-in_err-_finished-clause-want
-returns-in_err-_finished-clause-want g c = on_err _ c.from_residual-in_err-_finished.result (want_then g.A.App.meaning Never everyone _ _ _ c.in_ok-admitted.ensures.quiet c.in_err-_finished.ensures.want)
