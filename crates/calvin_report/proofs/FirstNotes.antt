@@ -1,221 +1,157 @@
--- What packets that are noted reply: at each place the same first, however the notes are sorted, and of sorted notes what the
--- first note of each place tells.
-use Rattle.std.proofs.Common.{◌≡◌, ℕ, zero, suc, ◌+◌, ◌-◌, ◌<◌, Bool, true, false, not, cond, ◌&&◌, List, [], ◌∷◌, ◌++◌, length, take, get_or, slice_get, Option, Some, None, refl, sym, ap, subst, ◌∙◌, arith}
+-- What packets reply that are noted, each place once, by the first that replied there: the same in whatever order the notes
+-- stand, and in the order in which it is told where they stand in that of the places.
+use Rattle.std.proofs.Common.{◌≡◌, ℕ, zero, suc, ◌+◌, Bool, true, false, cond, T, ◌||◌, List, [], ◌∷◌, ◌++◌, take, get_or, slice_get, Option, Some, None, refl, sym, ap, subst, ◌∙◌, arith}
 use Rattle.std.specs.declared.cmp.Ordering.{Ordering}
 use Rattle.std.specs.declared.cmp.Ordering.TheVariants.{Less, Equal, Greater}
 use Rattle.std.specs.Ordering.{eq_by_cmp, is_eq, is_lt, ordering_reverse}
-use Rattle.std.specs.Cmp.{tied_itself}
-use Rattle.std.specs.List.{All, filter, flat_map, list_all}
-use Rattle.std.specs.List.Sorted.{ties, IsStableByKey}
-use Rattle.std.specs.FinMap.{entries, from_entries, get-from_entries, same_map}
-use Rattle.std.specs.FinMap.Entries.{find, put, by_order, find-append}
+use Rattle.std.specs.Cmp.{eq_by_cmp_equiv}
+use Rattle.std.specs.List.{All, IsDistinct, flat_map, list_any}
+use Rattle.std.specs.List.Sorted.{IsPermutation, IsSortedByKey}
+use Rattle.std.specs.Map.{keys_of, lookup}
+use Rattle.std.specs.FinMap.{entries, from_entries, from_sorted, is_sorted, get-from_entries, get-from_sorted, entries-from_sorted, same_map}
+use Rattle.std.specs.FinMap.Entries.{find, put, below_all, is_some-find}
 use Rattle.std.specs.Option.{is_some, option_and_then, option_to_list}
-use Rattle.std.proofs.lemmas.Bool.{false≢true, not-true, and_parts, and_from}
+use Rattle.std.proofs.lemmas.Bool.{false≢true}
 use Rattle.std.proofs.lemmas.Grind.{flat_map-append}
-use Rattle.std.proofs.lemmas.List.{append-nil, append_assoc}
-use Rattle.std.proofs.lemmas.List.Elements.{All-head, All-tail}
-use Rattle.std.proofs.lemmas.Option.{slice_get-get_or, same_Some}
+use Rattle.std.proofs.lemmas.List.{append-nil, append_assoc, map-append}
+use Rattle.std.proofs.lemmas.List.Elements.{All-head, All-tail, All-push}
+use Rattle.std.proofs.lemmas.List.Folds.{list_any-append}
+use Rattle.std.proofs.lemmas.List.Sorted.{IsPermutation-map, IsPermutation-sym, Contains-permutation}
+use Rattle.std.proofs.lemmas.Map.Keys.{IsDistinct-push, IsDistinct-IsPermutation}
+use Rattle.std.proofs.lemmas.Map.Views.{Contains-from_lookup, lookup-from_Contains}
+use Rattle.std.proofs.lemmas.Option.{same_Some}
 use Rattle.calvin_types.specs.declared.place.Place.{Place}
 use Rattle.calvin_types.specs.declared.place.RequestId.{RequestId}
 use Rattle.calvin_types.specs.Places.{place_cmp}
+use Rattle.calvin_types.proofs.Conjunctions.{first, second, both, less}
 use Rattle.calvin_types.proofs.Fews.{take_at}
-use Rattle.calvin_types.proofs.PlaceOrder.{place_total, place_exact}
+use Rattle.calvin_types.proofs.HashMaps.{alike}
+use Rattle.calvin_types.proofs.PlaceOrder.{place_total, place_exact, one_place}
 use Rattle.calvin_app.specs.declared.answer.Answer.{Answer}
 use Rattle.calvin_node_packets.specs.declared.packet.Packet.{Packet}
 use Rattle.calvin_node_packets.specs.declared.packet.Content.{Content}
 use Rattle.calvin_node_packets.specs.declared.packet.Content.TheVariants as content
 use Rattle.calvin_node_packets.specs.Packets.{answered, replied as replied_to}
-use Rattle.calvin_sched.specs.Scheduling.{is_past}
+use Rattle.calvin_sched.proofs.PlaceMaps.{place_eq, place_eq_exact, place_eq_self}
 use Rattle.calvin_report.specs.FirstPut.{put_first}
-use Rattle.calvin_report.specs.Replies.{ByPlace, reply_in}
-use Rattle.calvin_report.specs.Notes.{reply_at, noted, IsNote, AreInOrder}
-use Rattle.calvin_report.proofs.ByPlace.{first_kept}
+use Rattle.calvin_report.specs.Replies.{ByPlace, reply_in, replied}
+use Rattle.calvin_report.specs.Notes.{reply_at, noted, IsNote, AreApart, AreInOrder}
+use Rattle.calvin_report.proofs.ByPlace.{find_entries, first_kept}
 
 -- ---- places in order
 
--- what isn't past a place is before a later one
-before_later : (p n q : Place) → place_cmp p n ≡ Less → is_lt (place_cmp p q) ≡ false → place_cmp n q ≡ Greater
-before_later p n q less upto = go (place_cmp p q) refl
+-- of two places that differ and don't fall the first is before the other
+rise : (p q : Place) → eq_by_cmp place_cmp p q ≡ false → is_lt (place_cmp q p) ≡ false → place_cmp p q ≡ Less
+rise p q differ upward = go (place_cmp p q) refl
   where
-    go : (o : Ordering) → place_cmp p q ≡ o → place_cmp n q ≡ Greater
-    go Less is = absurd (false≢true (sym upto ∙ ap is_lt is))
-    go Equal is = place_total.antisymm n q ∙ ap ordering_reverse (sym (place_total.congr p q n is) ∙ less)
-    go Greater is = place_total.antisymm n q ∙ ap ordering_reverse (place_total.trans q p n (place_total.antisymm q p ∙ ap ordering_reverse is) less)
-
-less_of : (o : Ordering) → is_lt o ≡ true → o ≡ Less
-less_of Less h = refl
-less_of Equal h = absurd (false≢true h)
-less_of Greater h = absurd (false≢true h)
-
--- neither is before the other
-one_of : (p n : Place) → is_lt (place_cmp p n) ≡ false → is_lt (place_cmp n p) ≡ false → p ≡ n
-one_of p n a b = go (place_cmp p n) refl
-  where
-    go : (o : Ordering) → place_cmp p n ≡ o → p ≡ n
-    go Less is = absurd (false≢true (sym a ∙ ap is_lt is))
-    go Equal is = place_exact p n is
-    go Greater is = absurd (false≢true (sym b ∙ ap is_lt (place_total.antisymm n p ∙ ap ordering_reverse is)))
+    go : (o : Ordering) → place_cmp p q ≡ o → place_cmp p q ≡ Less
+    go Less is = is
+    go Equal is = absurd (false≢true (sym differ ∙ ap is_eq is))
+    go Greater is = absurd (false≢true (sym upward ∙ ap is_lt (place_total.antisymm q p ∙ ap ordering_reverse is)))
 
 module _ {X : Type 0} where
-  -- none of these is past a place
-  abbrev pub IsUpTo : Place → List (Place × X) → Type 0
-  IsUpTo p es = list_all (λ e. not (is_lt (place_cmp p e.0))) es ≡ true
+  below_less : (p q : Place) (es : List (Place × X)) → place_cmp p q ≡ Less → T (below_all place_cmp q es) → T (below_all place_cmp p es)
+  below_less p q [] before h = tt
+  below_less p q (e ∷ es) before h = both _ _ (subst (λ o. T (is_lt o)) (sym (place_total.trans p q e.0 before (less _ (first _ _ h)))) tt) (below_less p q es before (second _ _ h))
 
-  module _ (p n : Place) (v : X) (less : place_cmp p n ≡ Less) where
-    past : (e : Place × X) (es : List (Place × X)) → IsUpTo p (e ∷ es) → place_cmp n e.0 ≡ Greater
-    past e es h = before_later p n e.0 less (not-true (is_lt (place_cmp p e.0)) (and_parts (not (is_lt (place_cmp p e.0))) (list_all (λ f. not (is_lt (place_cmp p f.0))) es) h).0)
+  next_below : (e f : Place × X) (es : List (Place × X)) → place_cmp e.0 f.0 ≡ Less → T (is_sorted place_cmp (f ∷ es)) → T (is_sorted place_cmp (e ∷ f ∷ es))
+  next_below e f es before h = both _ _ (both _ _ (subst (λ o. T (is_lt o)) (sym before) tt) (below_less e.0 f.0 es before (first _ _ h))) h
 
-    rest : (e : Place × X) (es : List (Place × X)) → IsUpTo p (e ∷ es) → IsUpTo p es
-    rest e es h = (and_parts (not (is_lt (place_cmp p e.0))) (list_all (λ f. not (is_lt (place_cmp p f.0))) es) h).1
+  -- entries in order are those of their map
+  in_order : (es : List (Place × X)) → T (is_sorted place_cmp es) → es ≡ entries (from_entries {R = place_cmp} es)
+  in_order es so = sym (entries-from_sorted place_cmp es so)
+      ∙ ap entries (same_map place_total place_exact (from_sorted es) (from_entries es) (λ q. get-from_sorted place_cmp es q so ∙ sym (get-from_entries place_total es q)))
 
-    put_last : (es : List (Place × X)) → IsUpTo p es → put place_cmp n v es ≡ es ++ (n, v) ∷ []
-    put_last [] h = refl
-    put_last (e ∷ es) h = ap (λ o. by_order o ((n, v) ∷ e ∷ es) ((e.0, v) ∷ es) (e ∷ put place_cmp n v es)) (past e es h) ∙ ap (λ fs. e ∷ fs) (put_last es (rest e es h))
+-- a sort puts places of which none stands twice in order
+pub sorted_notes : (notes : List (Place × ℕ)) → IsSortedByKey (λ n. n.0) place_cmp notes → AreApart notes → AreInOrder notes
+unfolding IsDistinct
+sorted_notes [] up apart = tt
+sorted_notes (m ∷ []) up apart = tt
+sorted_notes (m ∷ n ∷ notes) up apart =
+    next_below m n notes (rise m.0 n.0 apart.0.0 (up 0 m (omega arith) (omega arith))) (sorted_notes (n ∷ notes) (λ k d above within. later k d (up (suc k) d (omega arith) (omega (arith, within)))) apart.1)
+  where
+    later : (k : ℕ) (d : Place × ℕ) → is_lt (place_cmp (get_or (m ∷ n ∷ notes) (suc k + 1) d).0 (get_or (n ∷ notes) k d).0) ≡ false → is_lt (place_cmp (get_or (n ∷ notes) (k + 1) d).0 (get_or (n ∷ notes) k d).0) ≡ false
+    later k d h = let at : suc k + 1 ≡ suc (k + 1) = omega arith in subst (λ j. is_lt (place_cmp (get_or (m ∷ n ∷ notes) j d).0 (get_or (n ∷ notes) k d).0) ≡ false) at h
 
-    find_none : (es : List (Place × X)) → IsUpTo p es → find place_cmp n es ≡ None
-    find_none [] h = refl
-    find_none (e ∷ es) h = ap (λ o. cond (is_eq o) (Some e.1) (find place_cmp n es)) (past e es h) ∙ find_none es (rest e es h)
-
-    upto_last : (es : List (Place × X)) → IsUpTo p es → IsUpTo n (es ++ (n, v) ∷ [])
-    upto_last [] h = and_from (not (is_lt (place_cmp n n))) true (ap (λ o. not (is_lt o)) (tied_itself place_total n)) refl
-    upto_last (e ∷ es) h = and_from (not (is_lt (place_cmp n e.0))) (list_all (λ f. not (is_lt (place_cmp n f.0))) (es ++ (n, v) ∷ [])) (ap (λ o. not (is_lt o)) (past e es h)) (upto_last es (rest e es h))
-
-  one_found : (n : Place) (v : X) (es : List (Place × X)) → find place_cmp n es ≡ None → is_some (find place_cmp n (es ++ (n, v) ∷ [])) ≡ true
-  one_found n v es none = ap is_some (find-append place_cmp place_total es n v n none ∙ ap (λ o. cond (is_eq o) (Some v) (find place_cmp n es)) (tied_itself place_total n))
-
-  upto_one : (n : Place) (v : X) → IsUpTo n ((n, v) ∷ [])
-  upto_one n v = and_from (not (is_lt (place_cmp n n))) true (ap (λ o. not (is_lt o)) (tied_itself place_total n)) refl
-
-  one_is_found : (n : Place) (v : X) → is_some (find place_cmp n ((n, v) ∷ [])) ≡ true
-  one_is_found n v = ap (λ o. is_some (cond (is_eq o) (Some v) None)) (tied_itself place_total n)
-
--- ---- sorted notes
+-- ---- what is noted
 
 module _ {Args Row Reply : Type 0} (packets : List (Packet Args Row Reply)) where
-  -- what is told so far: nothing, or up to the last place
-  abbrev pub ToldUpTo : ByPlace Reply → Option Place → Type 0
-  ToldUpTo items None = items ≡ []
-  ToldUpTo items (Some p) = IsUpTo p items × (is_some (find place_cmp p items) ≡ true)
+  noted_keys : (notes : List (Place × ℕ)) → All (IsNote packets) notes → keys_of (noted packets notes) ≡ keys_of notes
+  noted_keys [] each = refl
+  noted_keys (n ∷ notes) each =
+      ap (λ (es : ByPlace Reply). keys_of (es ++ noted packets notes)) (All-head (IsNote packets) n notes each).1 ∙ ap (λ ks. n.0 ∷ ks) (noted_keys notes (All-tail (IsNote packets) n notes each))
 
-  pub record Told (notes : List (Place × ℕ)) (items : ByPlace Reply) (last : Option Place) (i : ℕ) : Type 0 where
-    pub so_far : items ≡ entries (from_entries {R = place_cmp} (noted packets (take i notes)))
-    pub upto : ToldUpTo items last
-    pub start : i ≡ 0 → last ≡ None
-    pub before : (j : ℕ) (m : Place × ℕ) → j + 1 ≡ i → slice_get notes j ≡ Some m → last ≡ Some m.0
+  noted_below : (p : Place) (notes : List (Place × ℕ)) → All (IsNote packets) notes → T (below_all place_cmp p notes) → T (below_all place_cmp p (noted packets notes))
+  noted_below p [] each h = tt
+  noted_below p (n ∷ notes) each h =
+      subst (λ (es : ByPlace Reply). T (below_all place_cmp p (es ++ noted packets notes))) (sym (All-head (IsNote packets) n notes each).1)
+      (both _ _ (first _ _ h) (noted_below p notes (All-tail (IsNote packets) n notes each) (second _ _ h)))
 
-  module _ (notes : List (Place × ℕ)) where
-    noted_more : (i : ℕ) (n : Place × ℕ) (v : RequestId × Answer Reply) → slice_get notes i ≡ Some n → reply_at packets n.1 ≡ (n.0, v) ∷ [] → noted packets (take (i + 1) notes) ≡ noted packets (take i notes) ++ (n.0, v) ∷ []
-    noted_more i n v here is =
-        ap (noted packets) (take_at notes i n here) ∙ flat_map-append (λ (m : Place × ℕ). reply_at packets m.1) (take i notes) (n ∷ [])
-        ∙ ap (λ es. noted packets (take i notes) ++ es) (append-nil (reply_at packets n.1) ∙ is)
+  noted_order : (notes : List (Place × ℕ)) → All (IsNote packets) notes → AreInOrder notes → T (is_sorted place_cmp (noted packets notes))
+  noted_order [] each h = tt
+  noted_order (n ∷ notes) each h =
+      let others = All-tail (IsNote packets) n notes each in
+      subst (λ (es : ByPlace Reply). T (is_sorted place_cmp (es ++ noted packets notes))) (sym (All-head (IsNote packets) n notes each).1)
+      (both _ _ (noted_below n.0 notes others (first _ _ h)) (noted_order notes others (second _ _ h)))
 
-    next : (i : ℕ) (n : Place × ℕ) (v : RequestId × Answer Reply) (items : ByPlace Reply) → slice_get notes i ≡ Some n → reply_at packets n.1 ≡ (n.0, v) ∷ []
-        → items ≡ entries (from_entries {R = place_cmp} (noted packets (take i notes))) → put_first n.0 v items ≡ entries (from_entries {R = place_cmp} (noted packets (take (i + 1) notes)))
-    next i n v items here is so_far = ap (put_first n.0 v) so_far ∙ sym (ap (λ es. entries (from_entries {R = place_cmp} es)) (noted_more i n v here is) ∙ first_kept (noted packets (take i notes)) n.0 v)
+  -- notes in order tell the first reply at each place, in order
+  pub told_in_order : (notes : List (Place × ℕ)) → All (IsNote packets) notes → AreInOrder notes → noted packets notes ≡ entries (from_entries {R = place_cmp} (noted packets notes))
+  told_in_order notes each order = in_order (noted packets notes) (noted_order notes each order)
 
-    here_before : (i : ℕ) (n : Place × ℕ) → slice_get notes i ≡ Some n → (j : ℕ) (m : Place × ℕ) → j + 1 ≡ i + 1 → slice_get notes j ≡ Some m → Some n.0 ≡ Some m.0
-    here_before i n here j m e there = ap (λ (k : Place × ℕ). Some k.0) (same_Some n m (sym here ∙ ap (slice_get notes) (sym (omega arith)) ∙ there))
-
-    module _ (i : ℕ) (n : Place × ℕ) (here : slice_get notes i ≡ Some n) (note : IsNote packets n) where
-      v : RequestId × Answer Reply
-      v = note.0
-
-      -- a place past the last one
-      pub told_first : (items : ByPlace Reply) (last : Option Place) → Told notes items last i → is_past last n.0 ≡ true → Told notes (items ++ (n.0, note.0) ∷ []) (Some n.0) (i + 1)
-      told_first items None told is =
-          let none = told.upto in
-          let all : items ++ (n.0, note.0) ∷ [] ≡ (n.0, note.0) ∷ [] = ap (λ es. es ++ (n.0, note.0) ∷ []) none in
-          record {
-            so_far = all ∙ sym (ap (put_first n.0 note.0) none) ∙ next i n note.0 items here note.1 told.so_far;
-            upto = (subst (IsUpTo n.0) (sym all) (upto_one n.0 note.0), ap (λ es. is_some (find place_cmp n.0 es)) all ∙ one_is_found n.0 note.0);
-            start = λ e. absurd (omega (arith, e));
-            before = λ j m e there. here_before i n here j m e there;
-          }
-      told_first items (Some p) told is =
-          let less = less_of (place_cmp p n.0) is in
-          let none = find_none p n.0 note.0 less items told.upto.0 in
-          let put = ap (λ o. cond (is_some o) items (put place_cmp n.0 note.0 items)) none ∙ put_last p n.0 note.0 less items told.upto.0 in
-          record {
-            so_far = sym put ∙ next i n note.0 items here note.1 told.so_far;
-            upto = (upto_last p n.0 note.0 less items told.upto.0, one_found n.0 note.0 items none);
-            start = λ e. absurd (omega (arith, e));
-            before = λ j m e there. here_before i n here j m e there;
-          }
-
-      -- the last place once more
-      pub told_again : (sorted : AreInOrder notes) → i < length notes → (items : ByPlace Reply) (last : Option Place) → Told notes items last i → is_past last n.0 ≡ false → Told notes items last (i + 1)
-      told_again sorted lt items None told is = absurd (false≢true (sym is))
-      told_again sorted lt items (Some p) told is =
-          let some : 0 < i = positive i refl in
-          let j = i - 1 in
-          let m = get_or notes j n in
-          let there = slice_get-get_or notes j n (omega (arith, lt)) in
-          let last = same_Some p m.0 (told.before j m (omega (arith, some)) there) in
-          let now = same_Some (get_or notes i n) n (sym (slice_get-get_or notes i n lt) ∙ here) in
-          let order : is_lt (place_cmp n.0 m.0) ≡ false = subst (λ (k : Place × ℕ). is_lt (place_cmp k.0 m.0) ≡ false) (ap (λ h. get_or notes h n) (omega (arith, some)) ∙ now) (sorted j n (omega arith) (omega (arith, some, lt))) in
-          let same : p ≡ n.0 = one_of p n.0 is (subst (λ q. is_lt (place_cmp n.0 q) ≡ false) (sym last) order) in
-          let found = ap (λ q. is_some (find place_cmp q items)) (sym same) ∙ told.upto.1 in
-          record {
-            so_far = sym (ap (λ b. cond b items (put place_cmp n.0 note.0 items)) found) ∙ next i n note.0 items here note.1 told.so_far;
-            upto = told.upto;
-            start = λ e. absurd (omega (arith, e));
-            before = λ h k e at. ap Some same ∙ here_before i n here h k e at;
-          }
-        where
-          positive : (h : ℕ) → i ≡ h → 0 < i
-          positive zero e = absurd (some_none (sym (told.start e)))
-            where
-              some_none : None ≡ Some p → ⊥
-              some_none none = cc
-          positive (suc h) e = omega (arith, e)
+  -- one more note
+  pub noted_more : (notes : List (Place × ℕ)) (i : ℕ) (n : Place × ℕ) → slice_get notes i ≡ Some n → noted packets (take (i + 1) notes) ≡ noted packets (take i notes) ++ reply_at packets n.1
+  noted_more notes i n here =
+      ap (noted packets) (take_at notes i n here) ∙ flat_map-append (λ (m : Place × ℕ). reply_at packets m.1) (take i notes) (n ∷ []) ∙ ap (λ es. noted packets (take i notes) ++ es) (append-nil (reply_at packets n.1))
 
 -- ---- notes in another order
 
-tied_is : (q : Place) (n : Place × ℕ) → ties (λ (x y : Place × ℕ). is_lt (place_cmp x.0 y.0)) (q, 0) n ≡ eq_by_cmp place_cmp q n.0
-tied_is q n = go (place_cmp q n.0) refl
-  where
-    back : (o : Ordering) → place_cmp q n.0 ≡ o → place_cmp n.0 q ≡ ordering_reverse o
-    back o is = place_total.antisymm n.0 q ∙ ap ordering_reverse is
+find-lookup : {X : Type 0} (q : Place) (es : List (Place × X)) → find place_cmp q es ≡ lookup (eq_by_cmp place_cmp q) es
+find-lookup q [] = refl
+find-lookup q (e ∷ es) = ap (cond (eq_by_cmp place_cmp q e.0) (Some e.1)) (find-lookup q es)
 
-    go : (o : Ordering) → place_cmp q n.0 ≡ o → (not (is_lt (place_cmp q n.0)) && not (is_lt (place_cmp n.0 q))) ≡ is_eq (place_cmp q n.0)
-    go o is = (λ i. not (is_lt (is i)) && not (is_lt (back o is i))) ∙ each o ∙ sym (ap is_eq is)
-      where
-        each : (r : Ordering) → (not (is_lt r) && not (is_lt (ordering_reverse r))) ≡ is_eq r
-        each Less = refl
-        each Equal = refl
-        each Greater = refl
+module _ (xs ys : List (Place × ℕ)) (apart : AreApart xs) (moved : IsPermutation xs ys) where
+  pub still_apart : AreApart ys
+  still_apart = IsDistinct-IsPermutation (eq_by_cmp place_cmp) ((eq_by_cmp_equiv place_total).symm) (keys_of xs) (keys_of ys) (IsPermutation-map (λ (n : Place × ℕ). n.0) xs ys moved) apart
 
-module _ {Args Row Reply : Type 0} (packets : List (Packet Args Row Reply)) (q : Place) where
-  abbrev lt : Place × ℕ → Place × ℕ → Bool
-  lt x y = is_lt (place_cmp x.0 y.0)
+  lookup_moved : (q : Place) → lookup (eq_by_cmp place_cmp q) ys ≡ lookup (eq_by_cmp place_cmp q) xs
+  lookup_moved q = go (lookup (eq_by_cmp place_cmp q) xs) refl (lookup (eq_by_cmp place_cmp q) ys) refl
+    where
+      go : (o : Option ℕ) → lookup (eq_by_cmp place_cmp q) xs ≡ o → (p : Option ℕ) → lookup (eq_by_cmp place_cmp q) ys ≡ p → lookup (eq_by_cmp place_cmp q) ys ≡ lookup (eq_by_cmp place_cmp q) xs
+      go (Some i) is p there = lookup-from_Contains (eq_by_cmp_equiv place_total) q i ys still_apart (Contains-permutation xs ys (q, i) moved (Contains-from_lookup one_place q i xs is)) ∙ sym is
+      go None is None there = there ∙ sym is
+      go None is (Some i) there = there ∙ sym (lookup-from_Contains (eq_by_cmp_equiv place_total) q i xs apart (Contains-permutation ys xs (q, i) (IsPermutation-sym xs ys moved) (Contains-from_lookup one_place q i ys there)))
 
-  -- what is found at a place is told by the notes of that place
-  found_of : (notes : List (Place × ℕ)) → All (IsNote packets) notes → find place_cmp q (noted packets notes) ≡ find place_cmp q (noted packets (filter (ties lt (q, 0)) notes))
-  found_of [] each = refl
-  found_of (n ∷ notes) each = go (ties lt (q, 0) n) refl (found_of notes (All-tail (IsNote packets) n notes each))
+  find_moved : (q : Place) → find place_cmp q ys ≡ find place_cmp q xs
+  find_moved q = find-lookup q ys ∙ lookup_moved q ∙ sym (find-lookup q xs)
+
+first_of : {Reply : Type 0} → ByPlace Reply → Option (RequestId × Answer Reply)
+first_of [] = None
+first_of (e ∷ es) = Some e.1
+
+module _ {Args Row Reply : Type 0} (packets : List (Packet Args Row Reply)) where
+  -- what is found at a place is told by the note that is found there
+  found_noted : (q : Place) (notes : List (Place × ℕ)) → All (IsNote packets) notes → find place_cmp q (noted packets notes) ≡ option_and_then (λ i. first_of (reply_at packets i)) (find place_cmp q notes)
+  unfolding first_of
+  found_noted q [] each = refl
+  found_noted q (n ∷ notes) each =
+      ap (λ (es : ByPlace Reply). find place_cmp q (es ++ noted packets notes)) note.1
+      ∙ go (eq_by_cmp place_cmp q n.0) (found_noted q notes (All-tail (IsNote packets) n notes each))
     where
       note : IsNote packets n
       note = All-head (IsNote packets) n notes each
 
-      first : (es : ByPlace Reply) → find place_cmp q (reply_at packets n.1 ++ es) ≡ cond (eq_by_cmp place_cmp q n.0) (Some note.0) (find place_cmp q es)
-      first es = ap (λ fs. find place_cmp q (fs ++ es)) note.1
+      go : (b : Bool) → find place_cmp q (noted packets notes) ≡ option_and_then (λ i. first_of (reply_at packets i)) (find place_cmp q notes)
+          → cond b (Some note.0) (find place_cmp q (noted packets notes)) ≡ option_and_then (λ i. first_of (reply_at packets i)) (cond b (Some n.1) (find place_cmp q notes))
+      go true others = sym (ap first_of note.1)
+      go false others = others
 
-      go : (b : Bool) → ties lt (q, 0) n ≡ b → find place_cmp q (noted packets notes) ≡ find place_cmp q (noted packets (filter (ties lt (q, 0)) notes))
-          → find place_cmp q (reply_at packets n.1 ++ noted packets notes) ≡ find place_cmp q (noted packets (cond (ties lt (q, 0) n) (n ∷ filter (ties lt (q, 0)) notes) (filter (ties lt (q, 0)) notes)))
-      go true is others = first (noted packets notes) ∙ ap (λ b. cond b (Some note.0) (find place_cmp q (noted packets notes))) (sym (tied_is q n) ∙ is)
-          ∙ sym (ap (λ b. cond b (Some note.0) (find place_cmp q (noted packets (filter (ties lt (q, 0)) notes)))) (sym (tied_is q n) ∙ is))
-          ∙ sym (first (noted packets (filter (ties lt (q, 0)) notes)))
-          ∙ sym (ap (λ b. find place_cmp q (noted packets (cond b (n ∷ filter (ties lt (q, 0)) notes) (filter (ties lt (q, 0)) notes)))) is)
-      go false is others = first (noted packets notes) ∙ ap (λ b. cond b (Some note.0) (find place_cmp q (noted packets notes))) (sym (tied_is q n) ∙ is) ∙ others
-          ∙ sym (ap (λ b. find place_cmp q (noted packets (cond b (n ∷ filter (ties lt (q, 0)) notes) (filter (ties lt (q, 0)) notes)))) is)
-
-module _ {Args Row Reply : Type 0} (packets : List (Packet Args Row Reply)) (xs ys : List (Place × ℕ)) where
-  -- where notes of one place keep their order, the same is told first
-  pub same_first : All (IsNote packets) xs → All (IsNote packets) ys → IsStableByKey (λ (n : Place × ℕ). n.0) place_cmp xs ys
+  -- notes of which no two are of one place tell the same in another order
+  pub same_replies : (xs ys : List (Place × ℕ)) → All (IsNote packets) xs → All (IsNote packets) ys → AreApart xs → IsPermutation xs ys
       → entries (from_entries {R = place_cmp} (noted packets ys)) ≡ entries (from_entries {R = place_cmp} (noted packets xs))
-  same_first of_xs of_ys stable =
-      ap entries (same_map place_total place_exact (from_entries {R = place_cmp} (noted packets ys)) (from_entries (noted packets xs))
-      (λ q. get-from_entries place_total (noted packets ys) q ∙ found_of packets q ys of_ys ∙ ap (λ ns. find place_cmp q (noted packets ns)) (stable (q, 0)) ∙ sym (found_of packets q xs of_xs) ∙ sym (get-from_entries place_total (noted packets xs) q)))
+  same_replies xs ys of_xs of_ys apart moved =
+      ap entries (same_map place_total place_exact (from_entries {R = place_cmp} (noted packets ys)) (from_entries (noted packets xs)) (λ q.
+      get-from_entries place_total (noted packets ys) q ∙ found_noted q ys of_ys ∙ ap (option_and_then (λ i. first_of (reply_at packets i))) (find_moved xs ys apart moved q)
+      ∙ sym (found_noted q xs of_xs) ∙ sym (get-from_entries place_total (noted packets xs) q)))
 
 -- ---- packet by packet
 
@@ -264,13 +200,66 @@ module _ {Args Row Reply : Type 0} where
     pub is_note : (x : Place × RequestId × ℕ) → Some x ≡ option_and_then (λ p. replied_to p.content) (slice_get packets i) → IsNote packets (x.0, i)
     is_note x is = let here = of_some (slice_get packets i) x is in ((x.1, here.0), here.2)
 
+  -- after so many packets: the places, and the notes of the first that replied at each
+  pub record Noted (packets : List (Packet Args Row Reply)) (places : List Place) (notes : List (Place × ℕ)) (i : ℕ) : Type 0 where
+    pub so_far : entries (from_entries {R = place_cmp} (noted packets notes)) ≡ entries (replied (take i packets))
+    pub each : All (IsNote packets) notes
+    pub apart : AreApart notes
+    pub same : (q : Place) → list_any (place_eq q) places ≡ list_any (eq_by_cmp place_cmp q) (keys_of notes)
+
+  module _ (packets : List (Packet Args Row Reply)) (places : List Place) (notes : List (Place × ℕ)) (i : ℕ) (now : Noted packets places notes i) where
     one_on : suc i ≡ i + 1
     one_on = omega arith
 
-    pub noted_here : (q : Place) (notes : List (Place × ℕ)) → noted packets notes ≡ told (take i packets) → noted packets (notes ++ (q, i) ∷ []) ≡ told (take (i + 1) packets)
-    noted_here q notes so_far =
-        flat_map-append (λ (n : Place × ℕ). reply_at packets n.1) notes ((q, i) ∷ []) ∙ ap (λ es. noted packets notes ++ es) (append-nil (reply_at packets i))
-        ∙ ap (λ es. es ++ reply_at packets i) so_far ∙ sym (more_told packets i) ∙ ap (λ n. told (take n packets)) one_on
+    told_on : told (take (i + 1) packets) ≡ told (take i packets) ++ reply_at packets i
+    told_on = ap (λ n. told (take n packets)) (sym one_on) ∙ more_told packets i
 
-    pub passed_here : reply_at packets i ≡ [] → (notes : List (Place × ℕ)) → noted packets notes ≡ told (take i packets) → noted packets notes ≡ told (take (i + 1) packets)
-    passed_here none notes so_far = so_far ∙ sym (append-nil (told (take i packets))) ∙ ap (λ es. told (take i packets) ++ es) (sym none) ∙ sym (more_told packets i) ∙ ap (λ n. told (take n packets)) one_on
+    -- a packet that doesn't reply
+    pub passed : reply_at packets i ≡ [] → Noted packets places notes (i + 1)
+    passed none = record {
+      so_far = now.so_far ∙ ap (λ es. entries (from_entries {R = place_cmp} es)) (sym (told_on ∙ ap (λ es. told (take i packets) ++ es) none ∙ append-nil (told (take i packets))));
+      each = now.each;
+      apart = now.apart;
+      same = now.same;
+    }
+
+    module _ (q : Place) (note : IsNote packets (q, i)) where
+      replied_on : entries (replied (take (i + 1) packets)) ≡ put_first q note.0 (entries (replied (take i packets)))
+      replied_on = ap (λ es. entries (from_entries {R = place_cmp} es)) (told_on ∙ ap (λ es. told (take i packets) ++ es) note.1) ∙ first_kept (told (take i packets)) q note.0
+
+      found : list_any (place_eq q) places ≡ true → is_some (find place_cmp q (entries (replied (take i packets)))) ≡ true
+      found there =
+          ap (λ (es : ByPlace Reply). is_some (find place_cmp q es)) (sym now.so_far) ∙ ap is_some (find_entries (noted packets notes) q) ∙ is_some-find place_cmp q (noted packets notes)
+          ∙ ap (list_any (eq_by_cmp place_cmp q)) (noted_keys packets notes now.each) ∙ sym (now.same q) ∙ there
+
+      -- one that replies where one did before
+      pub noted_before : (after : List Place) → after ≡ places → list_any (place_eq q) places ≡ true → Noted packets after notes (i + 1)
+      noted_before after unchanged there = record {
+        so_far = now.so_far ∙ sym (replied_on ∙ ap (λ b. cond b (entries (replied (take i packets))) (put place_cmp q note.0 (entries (replied (take i packets))))) (found there));
+        each = now.each;
+        apart = now.apart;
+        same = λ p. ap (list_any (place_eq p)) unchanged ∙ now.same p;
+      }
+
+      -- one that replies where none did
+      pub noted_first : (after : List Place) → ((p : Place) → list_any (place_eq p) after ≡ cond (place_eq q p) true (list_any (place_eq p) places)) → list_any (place_eq q) places ≡ false → Noted packets after (notes ++ (q, i) ∷ []) (i + 1)
+      noted_first after more absent = record {
+        so_far = ap (λ es. entries (from_entries {R = place_cmp} es)) (flat_map-append (λ (n : Place × ℕ). reply_at packets n.1) notes ((q, i) ∷ []) ∙ ap (λ es. noted packets notes ++ es) (append-nil (reply_at packets i) ∙ note.1))
+            ∙ first_kept (noted packets notes) q note.0 ∙ ap (put_first q note.0) now.so_far ∙ sym replied_on;
+        each = All-push (IsNote packets) notes (q, i) now.each note;
+        apart = subst (IsDistinct (eq_by_cmp place_cmp)) (sym keys_on) (IsDistinct-push (eq_by_cmp_equiv place_total) (keys_of notes) q now.apart (sym (now.same q) ∙ absent));
+        same = λ p. more p ∙ ap (λ b. cond (place_eq q p) true b) (now.same p) ∙ one_more p ∙ sym (ap (list_any (eq_by_cmp place_cmp p)) keys_on ∙ list_any-append (eq_by_cmp place_cmp p) (keys_of notes) (q ∷ []));
+      }
+        where
+          keys_on : keys_of (notes ++ (q, i) ∷ []) ≡ keys_of notes ++ q ∷ []
+          keys_on = map-append (λ (n : Place × ℕ). n.0) notes ((q, i) ∷ [])
+
+          one_more : (p : Place) → cond (place_eq q p) true (list_any (eq_by_cmp place_cmp p) (keys_of notes)) ≡ (list_any (eq_by_cmp place_cmp p) (keys_of notes) || (eq_by_cmp place_cmp p q || false))
+          one_more p = ap (λ b. cond b true (list_any (eq_by_cmp place_cmp p) (keys_of notes))) (alike place_eq place_cmp place_total place_exact place_eq_exact place_eq_self q p ∙ (eq_by_cmp_equiv place_total).symm q p)
+              ∙ go (eq_by_cmp place_cmp p q) (list_any (eq_by_cmp place_cmp p) (keys_of notes))
+            where
+              go : (a b : Bool) → cond a true b ≡ (b || (a || false))
+              go true true = refl
+              go true false = refl
+              go false true = refl
+              go false false = refl

@@ -1,12 +1,15 @@
--- For the code: the packets that reply, noted as the places at which they do, each with the packet's number.
+-- For the code: packets that reply, noted as the places at which they do, each with the packet's number.
 --     reply_at packets n      what the packet of a number replies
 --     noted packets notes      what the packets reply that are noted
 --     IsNote packets note      its packet replies at the place, once
---     AreInOrder notes      no place is before the one that stands before it
-use Rattle.std.specs.Prelude.{◌≡◌, ℕ, List, [], ◌∷◌, slice_get}
-use Rattle.std.specs.List.{flat_map}
-use Rattle.std.specs.List.Sorted.{IsSortedByKey}
+--     AreApart notes      no place stands twice
+--     AreInOrder notes      each place is before those that stand after it
+use Rattle.std.specs.Prelude.{◌≡◌, ℕ, T, List, [], ◌∷◌, slice_get}
+use Rattle.std.specs.FinMap.{is_sorted}
+use Rattle.std.specs.List.{flat_map, IsDistinct}
+use Rattle.std.specs.Map.{keys_of}
 use Rattle.std.specs.Option.{option_to_list}
+use Rattle.std.specs.Ordering.{eq_by_cmp}
 use Rattle.calvin_types.specs.declared.place.Place.{Place}
 use Rattle.calvin_types.specs.declared.place.RequestId.{RequestId}
 use Rattle.calvin_types.specs.Places.{place_cmp}
@@ -24,5 +27,8 @@ module _ {Args Row Reply : Type 0} (packets : List (Packet Args Row Reply)) wher
   abbrev pub IsNote : Place × ℕ → Type 0
   IsNote n = (v : RequestId × Answer Reply) × (reply_at n.1 ≡ (n.0, v) ∷ [])
 
+abbrev pub AreApart : List (Place × ℕ) → Type 0
+AreApart notes = IsDistinct (eq_by_cmp place_cmp) (keys_of notes)
+
 abbrev pub AreInOrder : List (Place × ℕ) → Type 0
-AreInOrder notes = IsSortedByKey (λ n. n.0) place_cmp notes
+AreInOrder notes = T (is_sorted place_cmp notes)

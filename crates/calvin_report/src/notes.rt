@@ -1,32 +1,38 @@
 //! The packets that reply, noted by their places.
 ghost use Rattle.std.specs.Prelude.{◌≡◌, IfOk, IsOkUnless};
-ghost use Rattle.std.specs.List.{All, flat_map};
+ghost use Rattle.std.specs.List.{All};
 ghost use Rattle.std.specs.Option.{option_to_list};
 ghost use Rattle.std.specs.FinMap.{entries, from_entries};
 ghost use Rattle.calvin_types.specs.Places.{place_cmp};
-ghost use Rattle.calvin_sched.specs.Scheduling.{is_past};
-ghost use Rattle.calvin_report.specs.Notes.{reply_at, noted, IsNote, AreInOrder};
-ghost use Rattle.calvin_report.specs.Replies.{reply_in};
+ghost use Rattle.calvin_report.specs.Notes.{reply_at, noted, IsNote, AreApart, AreInOrder};
+ghost use Rattle.calvin_report.specs.Replies.{replied};
 
 use crate::replies::Replies;
 use calvin_app::{Answer, App};
 use calvin_node_packets::Outbox;
 use calvin_types::{Fault, Place, RequestId};
 use std::alloc::Global;
+use std::collections::HashSet;
 
-/// The packets that reply, in the order in which they were sent: the place at which each does, and its number. Refused with
-/// `OutOfMemory` where a growth was refused.
+/// The packets of which each is the first to reply at its place, in the order in which they were sent: the place, and the
+/// packet's number. Refused with `OutOfMemory` where a growth was refused.
 pub(crate) fn notes_of<A: App>(
     alloc: Global,
     packets: &Outbox<A>,
 ) -> Result<Vec<(Place, usize)>, Fault>
-    ensures noted { IfOk result (λ notes. noted packets.now.packets notes.items ≡ flat_map (λ p. reply_in p.content) packets.now.packets) }
+    ensures first { IfOk result (λ notes. entries (from_entries {R = place_cmp} (noted packets.now.packets notes.items)) ≡ entries (replied packets.now.packets)) }
     ensures each { IfOk result (λ notes. All (IsNote packets.now.packets) notes.items) }
+    ensures apart { IfOk result (λ notes. AreApart notes.items) }
     ensures only { IsOkUnless result Fault.OutOfMemory }
 {
+    let mut places = HashSet::new(alloc);
     let mut notes = Vec::new(alloc);
     for number in 0..packets.len() {
-        if let Some((place, _id, _attempt)) = packets.reply(number) {
+        let Some((place, _id, _attempt)) = packets.reply(number) else {
+            continue;
+        };
+        let is_first = places.insert(place)?;
+        if is_first {
             notes.push((place, number))?;
         }
     }
@@ -45,18 +51,8 @@ fn reply_of<A: App>(
     Some((place, (id, answer)))
 }
 
-/// Whether a place is after the last one, if there is one.
-fn is_past(last: Option<Place>, place: Place) -> bool
-    ensures { result ≡ is_past last place }
-{
-    match last {
-        Some(last) => last < place,
-        None => true,
-    }
-}
-
-/// What is replied at each place by the first of the packets that are noted there, in the order of the places. Refused with
-/// `OutOfMemory` where a growth was refused.
+/// What is replied at each place by the packet that is noted there, in the order of the places. Refused with `OutOfMemory`
+/// where a growth was refused.
 pub(crate) fn first_replies<A: App>(
     alloc: Global,
     packets: &Outbox<A>,
@@ -68,17 +64,12 @@ pub(crate) fn first_replies<A: App>(
     ensures only { IsOkUnless result Fault.OutOfMemory }
 {
     let mut replies = Vec::new(alloc);
-    let mut last = None;
     for i in 0..notes.len() {
-        let (place, number) = notes[i];
-        if !is_past(last, place) {
-            continue;
-        }
+        let (_place, number) = notes[i];
         let Some(reply) = reply_of(packets, number) else {
             continue;
         };
         replies.push(reply)?;
-        last = Some(place);
     }
     Ok(replies)
 }

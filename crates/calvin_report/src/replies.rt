@@ -34,8 +34,8 @@ impl Epochs {
     }
 }
 
-/// What was replied at each place in all these packets: where several replies were sent at a place, the first of them. They are
-/// noted by their places and sorted, so that none is copied but these. Refused with `OutOfMemory` where a growth was refused.
+/// What was replied at each place in all these packets: where several replies were sent at a place, the first of them. Only these
+/// are noted and sorted by their places, and copied. Refused with `OutOfMemory` where a growth was refused.
 pub fn replies_of<A: App>(alloc: Global, packets: &Outbox<A>) -> Result<Replies<A::Reply>, Fault>
     ensures ok { IfOk result (λ replies. replies.items ≡ entries (replied packets.now.packets)) }
     ensures only { IsOkUnless result Fault.OutOfMemory }
