@@ -175,10 +175,14 @@ impl Draws {
         KeySet::of(Key { table: 0, id })
     }
 
-    /// Some of the keys 0 to 7, and often none.
+    /// Some of the keys 0 to 7, and often none: mostly two at most, and now and then up to six.
     fn keys(&mut self) -> Result<KeySet, Fault> {
         let mut keys = KeySet::new();
-        for _ in 0..self.below(3) {
+        let bound = match self.below(8) {
+            0 => 7,
+            _ => 3,
+        };
+        for _ in 0..self.below(bound) {
             let id = self.below(8) as u64;
             keys.insert(Key { table: 0, id })?;
         }

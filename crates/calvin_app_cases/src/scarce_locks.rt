@@ -2,7 +2,7 @@
 //! is like the other. With ample memory nothing is refused. `rt try --test --fail-alloc N` refuses the Nth allocation of a test: for
 //! each N, from 1 until `nothing_refused` has passed for many in turn, `refused_once` has to pass (`tools/check_refusals`).
 use crate::checks::same;
-use crate::kv::set;
+use crate::kv::{key, set};
 use calvin_lock::{ListLocks, Locks, QueueLocks};
 use calvin_types::{Fault, KeySet, Place};
 use std::alloc::Global;
@@ -17,11 +17,22 @@ fn place(n: u32) -> Place {
 }
 
 /// The keys that a place reads, and those that it writes: each place reads a key that the fifth one after it reads too, and writes
-/// one that the seventh one after it writes.
+/// one that the seventh one after it writes. Each second place reads two keys and writes three besides, which are read and written by
+/// the tenth and the fourteenth one after it: so many keys take memory of their own.
 fn keys(n: u32) -> Result<(KeySet, KeySet), Fault> {
     let shared = u64::from(n % 5);
     let written = u64::from(n % 7).saturating_add(10);
-    Ok((set(&[shared])?, set(&[written])?))
+    if n % 2 == 0 {
+        return Ok((set(&[shared])?, set(&[written])?));
+    }
+    let (mut reads, mut writes) = (set(&[shared])?, set(&[written])?);
+    for more in [50, 60] {
+        reads.insert(key(shared.saturating_add(more)))?;
+    }
+    for more in [10, 20, 30] {
+        writes.insert(key(written.saturating_add(more)))?;
+    }
+    Ok((reads, writes))
 }
 
 /// The lock managers tell the same.

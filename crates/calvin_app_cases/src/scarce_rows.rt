@@ -3,9 +3,9 @@
 //! `nothing_refused` has passed for many in turn, `refused_once` has to pass (`tools/check_refusals`).
 use crate::checks::same;
 use crate::kv::key;
-use calvin_app::View;
+use calvin_app::{Look, View};
 use calvin_row_list::RowList;
-use calvin_types::{Fault, MOST_KEYS};
+use calvin_types::{Fault, Key, KeySet, MOST_KEYS};
 use calvin_view_list::ViewList;
 use std::alloc::Global;
 use std::process::Abort;
@@ -35,6 +35,29 @@ fn view_of(number: u64) -> View<u64> {
         }
     }
     view
+}
+
+/// The keys of the view of a number.
+fn keys_of(number: u64) -> Result<KeySet, Fault> {
+    let mut keys = KeySet::new();
+    for id in 0..rows_of(number) {
+        keys.insert(key(id))?;
+    }
+    Ok(keys)
+}
+
+/// The rows of a view, to be looked at.
+#[derive(Drop)]
+struct Seen<'a> {
+    view: &'a View<u64>,
+}
+
+impl<'a> Look<u64> for Seen<'a> {
+    ghost shown = { λ s. s.view.now };
+
+    fn look(&self, key: &Key) -> Option<u64> {
+        self.view.get(key)
+    }
 }
 
 /// It is the view of a number.
@@ -120,9 +143,10 @@ fn rows_endured(rt: &impl Abort, alloc: Global) -> Result<u32, Fault> {
     let mut last = 0;
     for number in 0..VIEWS {
         let view = view_of(number);
-        refused = refused.saturating_add(fit(rt, &mut rows, view.len(), last)?);
-        rows.reserve(view.len())?;
-        rows.set(&view);
+        let keys = keys_of(number)?;
+        refused = refused.saturating_add(fit(rt, &mut rows, keys.len(), last)?);
+        rows.reserve(keys.len())?;
+        rows.read(&Seen { view: &view }, &keys);
         check_rows(rt, &rows, number);
         last = number;
     }

@@ -1,5 +1,5 @@
 -- The test whether two places are the same is exact.
-use Rattle.std.proofs.Common.{◌≡◌, ◌≢◌, Bool, true, false, ◌&&◌, nat_eq, refl, eqb-true, eq-eqb}
+use Rattle.std.proofs.Common.{◌≡◌, true, ◌&&◌, nat_eq, refl, eqb-true, eq-eqb}
 use Rattle.std.proofs.lemmas.Bool.{and_parts}
 use Rattle.calvin_types.specs.declared.place.Place.{Place}
 use Rattle.calvin_lock.specs.Queues.{equal_places}
@@ -13,10 +13,3 @@ places_exact a b h =
 
 pub places_self : (a : Place) → equal_places a a ≡ true
 places_self a = λ i. eq-eqb a.epoch a.epoch refl i && eq-eqb a.n a.n refl i
-
-pub places_apart : (a b : Place) → a ≢ b → equal_places a b ≡ false
-places_apart a b far = go (equal_places a b) refl
-  where
-    go : (c : Bool) → equal_places a b ≡ c → equal_places a b ≡ false
-    go true is = absurd (far (places_exact a b is))
-    go false is = is

@@ -117,9 +117,6 @@ module _ (es now : List (Key × Queue)) (key : Key) (w : Queue) (updated : (k : 
       go true same = absurd (subst (λ o. MatchOption o ⊥ (λ q. HasRoom q other)) none (subst (λ x. HasRoomAt es x other) (sym (equal_keys_exact key k same)) room))
       go false apart = room_other k other apart room
 
-pub room_at : (es : List (Key × Queue)) (key : Key) (v : Queue) (other : Kind) → queue_at es key ≡ Some v → HasRoomAt es key other → HasRoom v other
-room_at es key v other found room = subst (λ o. MatchOption o ⊥ (λ q. HasRoom q other)) found room
-
 pub queue_found : (asks : Key → List Ask) (es : List (Key × Queue)) (key : Key) (o : Option Queue) → AreQueuesOrEmpty asks es → queue_at es key ≡ o → IsQueueAt (asks key) o
 queue_found asks es key o queues found = subst (IsQueueAt (asks key)) found (queues.at key)
 
@@ -156,9 +153,6 @@ module _ (es now : List (Key × Queue)) (key : Key) where
       go : (b : Bool) → equal_keys key k ≡ b → Fits v
       go true same = subst Fits (same_Some w v (sym (updated k ∙ ap (λ b. cond b (Some w) (queue_at es k)) same) ∙ found)) here
       go false apart = fits k v (sym (updated k ∙ ap (λ b. cond b (Some w) (queue_at es k)) apart) ∙ found)
-
-pub all_fit : (asks : Key → List Ask) (es : List (Key × Queue)) → AreQueuesOrEmpty asks es → AllFit es
-all_fit asks es queues k v found = (subst (IsQueueAt (asks k)) found (queues.at k)).2
 
 -- who leaves was there
 pub nobody_leaves : (before after : List Ask) → Leaves before after → before ≡ [] → ⊥

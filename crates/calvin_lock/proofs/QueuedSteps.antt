@@ -194,83 +194,82 @@ module _ (queues : List (Key × Queue)) (u : Unreleased) (last : Option Place) (
     leaves_asked : (key : Key) (a : Ask) → AsksFor key (place, h) a → Leaves (before_release key) (after_release key)
     leaves_asked key a asks = leaves_queue k.requests k.order.rising (at_request place (record { sets = h; waits = 0; near = n }) ready).0 place h at_index free key a asks
 
-    module _ (none : List Key) (empty : none ≡ []) where
-      written : (key : Key) (b : Bool) → has h.writes key ≡ b → asked h.writes none key ≡ (b && true)
-      written key b is = ap (λ l. asked h.writes l key) empty ∙ ap (λ c. c && true) is
+    written : (key : Key) (b : Bool) → has h.writes key ≡ b → asked h.writes [] key ≡ (b && true)
+    written key b is = ap (λ c. c && true) is
 
-      -- it leaves the queues of the keys that it writes
-      pub leaves_written : (key : Key) → asked h.writes none key ≡ true → Leaves (before_release key) (after_release key)
-      leaves_written key asks = elim (ask_cases key (place, h)) [
-        | inl unasked ↦ absurd (false≢true (sym (written key false unasked.writes) ∙ asks))
-        | inr (a, mine) ↦ leaves_asked key a mine
+    -- it leaves the queues of the keys that it writes
+    pub leaves_written : (key : Key) → asked h.writes [] key ≡ true → Leaves (before_release key) (after_release key)
+    leaves_written key asks = elim (ask_cases key (place, h)) [
+      | inl unasked ↦ absurd (false≢true (sym (written key false unasked.writes) ∙ asks))
+      | inr (a, mine) ↦ leaves_asked key a mine
+    ]
+
+    abbrev pub mid_release : Key → List Ask
+    mid_release key = cond (asked h.writes [] key) (after_release key) (before_release key)
+
+    not_true : (b : Bool) → not b ≡ true → b ≡ false
+    not_true true is = absurd (false≢true is)
+    not_true false is = refl
+
+    -- and then of those that it only reads
+    pub leaves_read : (key : Key) → asked h.reads h.writes key ≡ true → Leaves (mid_release key) (after_release key)
+    leaves_read key asks =
+        let parts = and_parts (has h.reads key) (not (has h.writes key)) asks in
+        let unwritten = not_true (has h.writes key) parts.1 in
+        subst (λ l. Leaves l (after_release key)) (sym (ap (λ b. cond b (after_release key) (before_release key)) (written key false unwritten)))
+        (elim (ask_cases key (place, h)) [
+          | inl unasked ↦ absurd (false≢true (sym unasked.reads ∙ parts.0))
+          | inr (a, mine) ↦ leaves_asked key a mine
+        ])
+
+    -- so all of them
+    pub left_all : (key : Key) → cond (asked h.reads h.writes key) (after_release key) (mid_release key) ≡ after_release key
+    left_all key = elim (ask_cases key (place, h)) [
+      | inl unasked ↦
+          ap (λ b. cond (b && not (has h.writes key)) (after_release key) (mid_release key)) unasked.reads
+          ∙ ap (λ b. cond b (after_release key) (before_release key)) (written key false unasked.writes)
+          ∙ stays_queue k.requests k.order.rising (at_request place (record { sets = h; waits = 0; near = n }) ready).0 place h at_index key unasked
+      | inr (a, mine) ↦ elim mine.kinds [
+        | inl alone ↦ ap (λ l. cond (asked h.reads h.writes key) (after_release key) l) (ap (λ b. cond b (after_release key) (before_release key)) (written key true alone.0)) ∙ either (asked h.reads h.writes key)
+        | inr shared ↦ (λ i. cond (shared.1.0 i && not (shared.0 i)) (after_release key) (mid_release key))
       ]
+    ]
+      where
+        either : (b : Bool) → cond b (after_release key) (after_release key) ≡ after_release key
+        either true = refl
+        either false = refl
 
-      abbrev pub mid_release : Key → List Ask
-      mid_release key = cond (asked h.writes none key) (after_release key) (before_release key)
-
-      not_true : (b : Bool) → not b ≡ true → b ≡ false
-      not_true true is = absurd (false≢true is)
-      not_true false is = refl
-
-      -- and then of those that it only reads
-      pub leaves_read : (key : Key) → asked h.reads h.writes key ≡ true → Leaves (mid_release key) (after_release key)
-      leaves_read key asks =
-          let parts = and_parts (has h.reads key) (not (has h.writes key)) asks in
-          let unwritten = not_true (has h.writes key) parts.1 in
-          subst (λ l. Leaves l (after_release key)) (sym (ap (λ b. cond b (after_release key) (before_release key)) (written key false unwritten)))
-          (elim (ask_cases key (place, h)) [
-            | inl unasked ↦ absurd (false≢true (sym unasked.reads ∙ parts.0))
-            | inr (a, mine) ↦ leaves_asked key a mine
-          ])
-
-      -- so all of them
-      pub left_all : (key : Key) → cond (asked h.reads h.writes key) (after_release key) (mid_release key) ≡ after_release key
-      left_all key = elim (ask_cases key (place, h)) [
-        | inl unasked ↦
-            ap (λ b. cond (b && not (has h.writes key)) (after_release key) (mid_release key)) unasked.reads
-            ∙ ap (λ b. cond b (after_release key) (before_release key)) (written key false unasked.writes)
-            ∙ stays_queue k.requests k.order.rising (at_request place (record { sets = h; waits = 0; near = n }) ready).0 place h at_index key unasked
-        | inr (a, mine) ↦ elim mine.kinds [
-          | inl alone ↦ ap (λ l. cond (asked h.reads h.writes key) (after_release key) l) (ap (λ b. cond b (after_release key) (before_release key)) (written key true alone.0)) ∙ either (asked h.reads h.writes key)
-          | inr shared ↦ (λ i. cond (shared.1.0 i && not (shared.0 i)) (after_release key) (mid_release key))
-        ]
-      ]
+    module _ (gone : List (Place × Pending)) (taken : (q : Place) → pending_at gone q ≡ cond (equal_places place q) None (pending_at u.places.entries q)) where
+      pub taken_waits : WaitsFor (λ q. waits_of q queues) gone
+      taken_waits q p found = go (equal_places place q) refl
         where
-          either : (b : Bool) → cond b (after_release key) (after_release key) ≡ after_release key
-          either true = refl
-          either false = refl
+          go : (b : Bool) → equal_places place q ≡ b → p.waits ≡ waits_of q queues
+          go true is = absurd (none-some p (sym (taken q ∙ ap (λ c. cond c None (pending_at u.places.entries q)) is) ∙ found))
+          go false is = k.waits q p (sym (taken q ∙ ap (λ c. cond c None (pending_at u.places.entries q)) is) ∙ found)
 
-      module _ (gone : List (Place × Pending)) (taken : (q : Place) → pending_at gone q ≡ cond (equal_places place q) None (pending_at u.places.entries q)) where
-        pub taken_waits : WaitsFor (λ q. waits_of q queues) gone
-        taken_waits q p found = go (equal_places place q) refl
+      module _ (v : Unreleased) (sets : (q : Place) → sets_of (pending_at v.places.entries q) ≡ sets_of (pending_at gone q)) where
+        less_is : (q : Place) → find place_cmp q (remove k.requests (at_request place (record { sets = h; waits = 0; near = n }) ready).0) ≡ sets_of (pending_at v.places.entries q)
+        less_is q =
+            find_without k.requests (at_request place (record { sets = h; waits = 0; near = n }) ready).0 (place, h) q k.order.rising at_index
+            ∙ (λ i. cond (turned place q i) None (k.same q i))
+            ∙ through (equal_places place q) ∙ sym (ap sets_of (taken q)) ∙ sym (sets q)
           where
-            go : (b : Bool) → equal_places place q ≡ b → p.waits ≡ waits_of q queues
-            go true is = absurd (none-some p (sym (taken q ∙ ap (λ c. cond c None (pending_at u.places.entries q)) is) ∙ found))
-            go false is = k.waits q p (sym (taken q ∙ ap (λ c. cond c None (pending_at u.places.entries q)) is) ∙ found)
+            through : (b : Bool) → cond b None (sets_of (pending_at u.places.entries q)) ≡ sets_of (cond b None (pending_at u.places.entries q))
+            through true = refl
+            through false = refl
 
-        module _ (v : Unreleased) (sets : (q : Place) → sets_of (pending_at v.places.entries q) ≡ sets_of (pending_at gone q)) where
-          less_is : (q : Place) → find place_cmp q (remove k.requests (at_request place (record { sets = h; waits = 0; near = n }) ready).0) ≡ sets_of (pending_at v.places.entries q)
-          less_is q =
-              find_without k.requests (at_request place (record { sets = h; waits = 0; near = n }) ready).0 (place, h) q k.order.rising at_index
-              ∙ (λ i. cond (turned place q i) None (k.same q i))
-              ∙ through (equal_places place q) ∙ sym (ap sets_of (taken q)) ∙ sym (sets q)
-            where
-              through : (b : Bool) → cond b None (sets_of (pending_at u.places.entries q)) ≡ sets_of (cond b None (pending_at u.places.entries q))
-              through true = refl
-              through false = refl
+        pub released : v.order.items ≡ u.order.items → (now : List (Key × Queue)) → IsUnreleased v → AreQueues (λ key. cond (asked h.reads h.writes key) (after_release key) (mid_release key)) now → WaitsFor (λ q. waits_of q now) v.places.entries → IsQueued now v last
+        released same now kept left waits = record {
+          requests = remove k.requests (at_request place (record { sets = h; waits = 0; near = n }) ready).0;
+          order = in_order_without k.requests last (at_request place (record { sets = h; waits = 0; near = n }) ready).0 k.order;
+          same = less_is;
+          asked = same_queues _ _ now left_all left;
+          waits = waits;
+          unreleased = kept;
+          up_to = λ q there. k.up_to q (subst (λ l. Among l q) same there);
+        }
 
-          pub released : v.order.items ≡ u.order.items → (now : List (Key × Queue)) → IsUnreleased v → AreQueues (λ key. cond (asked h.reads h.writes key) (after_release key) (mid_release key)) now → WaitsFor (λ q. waits_of q now) v.places.entries → IsQueued now v last
-          released same now kept left waits = record {
-            requests = remove k.requests (at_request place (record { sets = h; waits = 0; near = n }) ready).0;
-            order = in_order_without k.requests last (at_request place (record { sets = h; waits = 0; near = n }) ready).0 k.order;
-            same = less_is;
-            asked = same_queues _ _ now left_all left;
-            waits = waits;
-            unreleased = kept;
-            up_to = λ q there. k.up_to q (subst (λ l. Among l q) same there);
-          }
-
-          pub released_map : from_entries {R = place_cmp} (requests_of v.places.entries) ≡ map.remove (from_entries (requests_of u.places.entries)) place
-          released_map = map_is (remove k.requests (at_request place (record { sets = h; waits = 0; near = n }) ready).0) v.places.entries less_is
-              ∙ removed k.requests (at_request place (record { sets = h; waits = 0; near = n }) ready).0 (place, h) k.order.rising at_index
-              ∙ ap (λ m. map.remove m place) (sym kept_map)
+        pub released_map : from_entries {R = place_cmp} (requests_of v.places.entries) ≡ map.remove (from_entries (requests_of u.places.entries)) place
+        released_map = map_is (remove k.requests (at_request place (record { sets = h; waits = 0; near = n }) ready).0) v.places.entries less_is
+            ∙ removed k.requests (at_request place (record { sets = h; waits = 0; near = n }) ready).0 (place, h) k.order.rising at_index
+            ∙ ap (λ m. map.remove m place) (sym kept_map)

@@ -1,3 +1,4 @@
+pub mod KeptSets
 pub mod ListOrder
 pub mod Local
 pub mod Locking

@@ -3,6 +3,7 @@
 #![tactic(auto)]
 
 mod conflict;
+mod kept_sets;
 mod list_locks;
 mod locks;
 mod marks;

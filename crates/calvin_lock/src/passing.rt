@@ -1,16 +1,18 @@
 //! Keys that are passed on by a place that is released.
-ghost use Rattle.std.specs.Prelude.{◌≡◌, ◌+◌, List, [], true, cond, ℕ, None};
+ghost use Rattle.std.specs.Prelude.{◌≡◌, ◌+◌, List, [], true, cond, ℕ, IsTrue, None};
 ghost use Rattle.std.specs.Option.{option_map};
 ghost use Rattle.calvin_types.specs.declared.key.Key.{Key};
 ghost use Rattle.calvin_types.specs.declared.place.Place.{Place};
+ghost use Rattle.calvin_types.specs.Keys.{rises};
 ghost use Rattle.calvin_lock.specs.declared.queue.Ask.{Ask};
 ghost use Rattle.calvin_lock.specs.Queues.{Fits, IsQueueOf, IsSettled, waits_in, waits_of, asked, queue_at, AreQueuesOrEmpty, AreQueues, NoneIsEmpty, NoneIsNew, AllFit, Leaves, LeavesAt};
 ghost use Rattle.calvin_lock.specs.Unreleased.{IsUnreleased, WaitsFor, pending_at};
 
+use crate::kept_sets::{KeptKey, has_key};
 use crate::queue::Queue;
 use crate::queues::Queues;
 use crate::unreleased::Unreleased;
-use calvin_types::{Key, KeySet};
+use calvin_types::Key;
 
 /// Lets those who wait first hold the key of a queue, as far as they may.
 fn settle(queue: &mut Queue, unreleased: &mut Unreleased)
@@ -58,9 +60,15 @@ impl Queues {
 
     /// A place that holds some keys but for others leaves their queues, and those who wait first hold them, as far as they
     /// may.
-    pub(crate) fn leave(&mut self, unreleased: &mut Unreleased, keys: &KeySet, except: &KeySet)
+    pub(crate) fn leave(
+        &mut self,
+        unreleased: &mut Unreleased,
+        keys: &[KeptKey],
+        except: &[KeptKey],
+    )
         requires kept { IsUnreleased unreleased.old }
         requires fits { AllFit self.old.queues.entries }
+        requires rising { IsTrue (rises keys.now) }
         ensures kept { IsUnreleased unreleased.new }
         ensures fits { AllFit self.new.queues.entries }
         ensures sets { (q : Place) → option_map (λ p. p.sets) (pending_at unreleased.new.places.entries q) ≡ option_map (λ p. p.sets) (pending_at unreleased.old.places.entries q) }
@@ -77,8 +85,9 @@ impl Queues {
             → WaitsFor (λ q. waits_of q self.new.queues.entries) unreleased.new.places.entries }
     {
         for i in 0..keys.len() {
-            let key = keys.at(i);
-            if except.has(key) {
+            let kept = keys[i];
+            let key = kept.key;
+            if has_key(except, key) {
                 continue;
             }
             self.pass_on(unreleased, key);

@@ -7,12 +7,13 @@ ghost use Rattle.calvin_lock.specs.declared.queue.Ask.{Ask};
 ghost use Rattle.calvin_lock.specs.Queues.{asked, waits_of, queue_at, AreQueuesOrEmpty, HasRoomAt};
 ghost use Rattle.calvin_lock.specs.Unreleased.{Among, IsUnreleased, HasPlace};
 
+use crate::kept_sets::KeptSets;
 use crate::list_locks::is_past;
 use crate::locks::Locks;
 use crate::queue::Kind;
 use crate::queues::Queues;
 use crate::unreleased::Unreleased;
-use calvin_types::{Fault, KeySet, Place, Sets};
+use calvin_types::{Fault, KeySet, Place};
 use std::alloc::Global;
 use std::marker::Model;
 
@@ -86,6 +87,7 @@ impl Locks for QueueLocks {
         if reads.is_empty() && writes.is_empty() {
             return Err(Fault::NoKeys);
         }
+        let sets = KeptSets::new(self.queues.alloc, reads, writes)?;
         if let Err(fault) = reserve(&mut self.queues, &mut self.unreleased, reads, writes) {
             self.queues.drop_all_empty(writes);
             self.queues.drop_all_empty(reads);
@@ -95,10 +97,6 @@ impl Locks for QueueLocks {
             .queues
             .join(place, writes, &KeySet::new(), Kind::Exclusive);
         let shared = self.queues.join(place, reads, writes, Kind::Shared);
-        let sets = Sets {
-            reads: *reads,
-            writes: *writes,
-        };
         let waits = exclusive + shared;
         self.unreleased.add(place, sets, waits);
         self.last = Some(place);
@@ -111,11 +109,11 @@ impl Locks for QueueLocks {
 
     fn release(&mut self, place: Place) -> Result<(), Fault> {
         match self.unreleased.take(place) {
-            Some(sets) => {
-                self.queues
-                    .leave(&mut self.unreleased, &sets.writes, &KeySet::new());
-                self.queues
-                    .leave(&mut self.unreleased, &sets.reads, &sets.writes);
+            Some(kept) => {
+                let (reads, writes) = (kept.reads(), kept.writes());
+                self.queues.leave(&mut self.unreleased, writes, &[]);
+                self.queues.leave(&mut self.unreleased, reads, writes);
+                drop(kept);
                 Ok(())
             }
             None => Err(Fault::NotHeld),

@@ -19,7 +19,7 @@ use std::alloc::Global;
 /// is let go.
 #[derive(Drop)]
 pub(crate) struct Queues {
-    alloc: Global,
+    pub(crate) alloc: Global,
     pub(crate) queues: IndexMap<Key, Queue>,
 }
 

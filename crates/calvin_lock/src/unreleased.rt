@@ -7,9 +7,10 @@ ghost use Rattle.calvin_lock.specs.Queues.{equal_places};
 ghost use Rattle.calvin_lock.specs.Marks.{AreMarks, is_marked};
 ghost use Rattle.calvin_lock.specs.Unreleased.{Among, Rises, pending_at, IsReadyIn, with_fewer, AreMarked, IsUnreleased, HasPlace, IsUpTo, IsFirstReadyIn};
 
+use crate::kept_sets::KeptSets;
 use crate::marks::Marks;
 use crate::order::{count_up_to, number_of};
-use calvin_types::{Fault, Place, Sets};
+use calvin_types::{Fault, Place};
 use indexmap::IndexMap;
 use std::alloc::Global;
 
@@ -18,9 +19,9 @@ const LEAST_ORDER: usize = 64;
 
 /// What is kept of an unreleased place: its keys, how many of them it waits for, and where it stood in order when it was
 /// requested, which is where it is looked for first.
-#[derive(Clone, Copy, Drop)]
+#[derive(Drop)]
 pub(crate) struct Pending {
-    pub sets: Sets,
+    pub sets: KeptSets,
     pub waits: usize,
     pub near: usize,
 }
@@ -137,7 +138,7 @@ impl Unreleased {
     }
 
     /// Adds a place past all in order, for which there is room.
-    pub(crate) fn add(&mut self, place: Place, sets: Sets, waits: usize)
+    pub(crate) fn add(&mut self, place: Place, sets: KeptSets, waits: usize)
         requires kept { IsUnreleased self.old }
         requires room { HasPlace self.old }
         requires new { pending_at self.old.places.entries place ≡ None }
@@ -179,7 +180,7 @@ impl Unreleased {
     }
 
     /// Takes a ready place out, and gives its keys; of another place nothing changes.
-    pub(crate) fn take(&mut self, place: Place) -> Option<Sets>
+    pub(crate) fn take(&mut self, place: Place) -> Option<KeptSets>
         requires { IsUnreleased self.old }
         ensures kept { IsUnreleased self.new }
         ensures taken { MatchOption result ((¬ IsReadyIn self.old.places.entries place)
@@ -193,11 +194,10 @@ impl Unreleased {
             return None;
         }
         let number = number_of(self.order.as_slice(), place, pending.near)?;
-        let sets = pending.sets;
+        let (_, taken) = self.places.swap_remove_index(at)?;
         self.marks.unmark(number);
         self.last = number;
-        let _taken = self.places.swap_remove_index(at);
-        Some(sets)
+        Some(taken.sets)
     }
 
     /// Whether a place is unreleased and waits for no key.

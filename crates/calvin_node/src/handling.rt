@@ -59,7 +59,7 @@ impl<A: App, L: Locks + Drop, S: Rows<A::Row> + Drop> Node<A, L, S> {
     }
 
     /// The rows that another partition read for the request at a place are kept (section 3.2: remote reads). Refused with
-    /// `NotAwaited` where they aren't awaited. It takes no memory.
+    /// `NotAwaited` where they aren't awaited. It is never refused for memory.
     fn on_reads(&mut self, from: u8, place: Place, rows: &View<A::Row>) -> Result<(), Fault>
         ensures did { NodeDid {Reply = A.Reply} false result (handling.by_scheduler self.old.state
             (steps.on_reads (site_of self.old.config.partitions self.old.state) place from rows.now self.old.state.scheduler))

@@ -1,6 +1,7 @@
 //! What is kept of what a packet says.
 ghost use Rattle.std.specs.Prelude.{◌≡◌, ◌+◌, ◌-◌, ◌<◌, ◌≤◌, true, false, MatchOption, vec_len, vec_capacity};
-ghost use Rattle.calvin_node_packets.specs.Keeping.{Below, Lists, counts, is_plain, kept_of, lists_cut, lists_with, none, said};
+ghost use Rattle.calvin_node_packets.specs.Keeping as keeping;
+ghost use Rattle.calvin_node_packets.specs.Keeping.{Below, Lists, counts, kept_of, lists_cut, lists_with, none, said};
 ghost use Rattle.calvin_node_packets.specs.Packets.{is_light};
 ghost use Rattle.calvin_node_packets.specs.Sendings.{content_of};
 
@@ -96,30 +97,40 @@ pub(crate) fn sent_of<'a, A: App>(
     }
 }
 
+/// Whether a packet has neither rows nor sets nor an answer.
+pub(crate) fn is_plain<Args>(content: &KeptContent<Args>) -> bool
+    ensures { result ≡ keeping.is_plain content.now }
+{
+    match content {
+        KeptContent::Reads(..) | KeptContent::Warm(_) | KeptContent::Replies(..) => false,
+        _ => true,
+    }
+}
+
 /// What a packet says that has rows, sets or an answer.
 pub(crate) fn listed<A: App>(
     content: &KeptContent<A::Args>,
     rows: &ViewList<A::Row>,
     sets: &[Sets],
     answers: &[Answer<A::Reply>],
-) -> Option<Content<A::Args, A::Row, A::Reply>>
-    requires { Below content.now (counts (record { rows = rows.now.views; sets = sets.now; answers = answers.now })) }
-    ensures { MatchOption result (is_plain content.now ≡ true) (λ listed. (is_plain content.now ≡ false)
-        × (listed ≡ said (record { rows = rows.now.views; sets = sets.now; answers = answers.now }) content.now)) }
+) -> Content<A::Args, A::Row, A::Reply>
+    requires below { Below content.now (counts (record { rows = rows.now.views; sets = sets.now; answers = answers.now })) }
+    requires listed { keeping.is_plain content.now ≡ false }
+    ensures { result ≡ said (record { rows = rows.now.views; sets = sets.now; answers = answers.now }) content.now }
 {
     match content {
-        KeptContent::Reads(place, at) => Some(Content::Reads(*place, rows.at(*at))),
-        KeptContent::Warm(at) => Some(Content::Warm(sets[*at])),
+        KeptContent::Reads(place, at) => Content::Reads(*place, rows.at(*at)),
+        KeptContent::Warm(at) => Content::Warm(sets[*at]),
         KeptContent::Replies(place, id, attempt, at) => {
-            Some(Content::Replies(*place, *id, *attempt, answers[*at]))
+            Content::Replies(*place, *id, *attempt, answers[*at])
         }
-        _ => None,
+        _ => unreachable!(),
     }
 }
 
 /// What a packet says that has neither rows nor sets nor an answer.
 pub(crate) fn taken_out<Args, Row, Reply>(content: KeptContent<Args>) -> Content<Args, Row, Reply>
-    requires { is_plain content ≡ true }
+    requires { keeping.is_plain content ≡ true }
     ensures { (lists : Lists Row Reply) → said lists content ≡ result }
 {
     match content {

@@ -6,7 +6,7 @@ ghost use Rattle.calvin_node_packets.specs.Sendings.{content_of};
 ghost use Rattle.calvin_node_packets.specs.declared.packet.Content.TheVariants.{Reads, Replies};
 ghost use Rattle.calvin_node_packets.specs.declared.packet.Packet.{Packet};
 
-use crate::keeping::{cut, listed, put_in, sent_of, store, taken_out};
+use crate::keeping::{cut, is_plain, listed, put_in, sent_of, store, taken_out};
 use crate::kept::{Kept, KeptContent};
 use crate::packet::{Address, Packet};
 use crate::sent::Sent;
@@ -153,13 +153,11 @@ impl<A: App> Outbox<A> {
         }
         let from = self.kept[number].from;
         let to = self.kept[number].to;
-        let listed = listed::<A>(
-            &self.kept[number].content,
-            &self.rows,
-            self.sets.as_slice(),
-            self.answers.as_slice(),
-        );
-        if let Some(content) = listed {
+        let kept = &self.kept[number].content;
+        if !is_plain(kept) {
+            let sets = self.sets.as_slice();
+            let answers = self.answers.as_slice();
+            let content = listed::<A>(kept, &self.rows, sets, answers);
             return Some(Packet { from, to, content });
         }
         let first = Place { epoch: 0, n: 0 };

@@ -32,7 +32,7 @@ use Rattle.calvin_node_packets.specs.declared.packet.Packet.{Packet}
 use Rattle.calvin_node_packets.specs.declared.packet.Content.{Content}
 use Rattle.calvin_node_packets.specs.declared.packet.Content.TheVariants as content
 use Rattle.calvin_node_packets.specs.Packets.{answered, replied as replied_to}
-use Rattle.calvin_sched.proofs.PlaceMaps.{place_eq, place_eq_exact, place_eq_self}
+use Rattle.calvin_sched.proofs.PlaceTests.{place_eq, place_eq_exact, place_eq_self}
 use Rattle.calvin_report.specs.FirstPut.{put_first}
 use Rattle.calvin_report.specs.Replies.{ByPlace, reply_in, replied}
 use Rattle.calvin_report.specs.Notes.{reply_at, noted, IsNote, AreApart, AreInOrder}

@@ -54,17 +54,6 @@ impl<Row: Copy> RowList<Row> {
         Ok(())
     }
 
-    /// Puts these rows in place of those that are there. There is room for them.
-    pub fn set(&mut self, rows: &View<Row>)
-        requires { map.len rows.now ≤ self.old.room }
-        ensures { self.new ≡ record self.old { rows = rows.now } }
-    {
-        self.entries.clear();
-        for i in 0..rows.len() {
-            self.entries.push_reserved(rows.at(i));
-        }
-    }
-
     /// Looks these keys up in turn, and puts the rows that they have in place of those that are there; keys without a row
     /// are left out. There is room for a row of each.
     pub fn read<L: Look<Row>>(&mut self, rows: &L, keys: &KeySet)
@@ -108,10 +97,18 @@ impl<Row: Copy> RowList<Row> {
         ensures { result ≡ self.now.rows }
     {
         let mut view = View::new();
+        self.put_into(&mut view);
+        view
+    }
+
+    /// Puts the rows among those of a view, of which there are none yet, so that it needn't be made and moved.
+    pub fn put_into(&self, view: &mut View<Row>)
+        requires { view.old ≡ map.empty }
+        ensures { view.new ≡ self.now.rows }
+    {
         for i in 0..self.entries.len() {
             let (key, row) = self.entries[i];
             view.put(key, row);
         }
-        view
     }
 }

@@ -174,7 +174,7 @@ module _ (partitions : ℕ) where
                     and_right (not (p == here)) (is_active (site partitions p) t)
                     (or_from (list_any (at p) t.sets.writes) (is_least (site partitions p) t) (elsewhere here p other t.sets.writes writes) (false_from_ne_true (is_least (site partitions p) t) (λ least. other (same p least))))
 
-        pub serves_by_least : list_all (at here) t.sets.writes ≡ true → (b : Bool) → is_least (site partitions here) t ≡ b → (list_any (at here) t.sets.reads && nat_lt 0 (length (other_active (site partitions here) t))) ≡ not b
+        serves_by_least : list_all (at here) t.sets.writes ≡ true → (b : Bool) → is_least (site partitions here) t ≡ b → (list_any (at here) t.sets.reads && nat_lt 0 (length (other_active (site partitions here) t))) ≡ not b
         serves_by_least writes true mine = and_right (list_any (at here) t.sets.reads) (nat_lt 0 (length (other_active (site partitions here) t))) (ap (nat_lt 0) (runs_here_alone writes mine))
         serves_by_least writes false other = and_from (list_any (at here) t.sets.reads) (nat_lt 0 (length (other_active (site partitions here) t))) reads (runs_at_the_least other)
 

@@ -13,14 +13,6 @@ use Rattle.calvin_sched.specs.Scheduling.{Turn, Scheduling, turn_at, with_turn}
 use Rattle.calvin_sched.specs.Steps.{Serving, begin, begin_at, begin_by, begun_turn, serving, silently, is_ready}
 
 module _ {Args Row : Type 0} (here : Site) (s : Scheduling Args Row) (q : Place) (x : Turn Args Row) (there : turn_at s q ≡ Some x) where
-  pub begun_already : (x.phase ≡ Waiting → ⊥) → begin here q s ≡ Refuses fault.Begun
-  begun_already far = ap (begin_at here q s) there ∙ go x.phase refl
-    where
-      go : (f : Phase) → x.phase ≡ f → begin_by here q s x x.phase ≡ Refuses fault.Begun
-      go Waiting e = absurd (far e)
-      go Begun e = ap (begin_by here q s x) e
-      go Done e = ap (begin_by here q s x) e
-
   pub not_yet : x.phase ≡ Waiting → (is_ready here s q x.request ≡ true → ⊥) → begin here q s ≡ Refuses fault.NotReady
   not_yet waits blocked = ap (begin_at here q s) there ∙ ap (begin_by here q s x) waits ∙ go (is_ready here s q x.request) refl
     where

@@ -1,10 +1,10 @@
 -- The rows of a request's keys: one key more, what each key has, and those that are all stored here.
-use Rattle.std.proofs.Common.{◌≡◌, ℕ, suc, ◌+◌, ◌≤◌, Bool, true, false, cond, ◌||◌, List, [], ◌∷◌, length, drop, Option, Some, None, refl, sym, ap, ◌∙◌, arith}
+use Rattle.std.proofs.Common.{◌≡◌, ℕ, ◌+◌, Bool, true, false, cond, ◌||◌, List, [], ◌∷◌, drop, Option, Some, None, refl, sym, ap, ◌∙◌}
 use Rattle.std.proofs.lemmas.Bool.{false≢true, false_from_ne_true, and_parts}
 use Rattle.std.specs.Prelude.{unwrap_or}
 use Rattle.std.specs.Cmp.{Equal-is}
 use Rattle.std.specs.List.{list_all, slice_get}
-use Rattle.std.specs.FinMap.{get, len, insert, empty, get-insert, get-empty, get-retain_keys, len-empty, same_map}
+use Rattle.std.specs.FinMap.{get, insert, empty, get-insert, get-empty, get-retain_keys, same_map}
 use Rattle.std.specs.Ordering.{eq_by_cmp}
 use Rattle.calvin_types.specs.declared.key.Key.{Key}
 use Rattle.calvin_types.specs.KeyOrder.{key_cmp_exact, key_cmp_total}
@@ -12,7 +12,7 @@ use Rattle.calvin_types.specs.Keys.{key_cmp, has, partition_of}
 use Rattle.calvin_types.specs.Participants.{Site, is_local, local_keys}
 use Rattle.calvin_types.proofs.Fews.{drop_at}
 use Rattle.calvin_app.specs.Rows.{Rows, view, part}
-use Rattle.calvin_app.proofs.Views.{get-view, len-insert-le}
+use Rattle.calvin_app.proofs.Views.{get-view}
 use Rattle.calvin_lock.proofs.LocalLocks.{has_local}
 use Rattle.calvin_sched.specs.Scheduling.{Turn, gathered, put_some, piece}
 
@@ -22,15 +22,6 @@ module _ {Row : Type 0} (pieces : Key → Rows Row) (ks : List Key) (i : ℕ) (k
 
   pub no_row : get (pieces k) k ≡ None → gathered pieces (drop (i + 1) ks) ≡ gathered pieces (drop i ks)
   no_row is = ap (put_some (gathered pieces (drop (i + 1) ks)) k) (sym is) ∙ ap (gathered pieces) (sym (drop_at ks i k here))
-
--- there are no more rows than keys
-pub gathered_few : {Row : Type 0} (pieces : Key → Rows Row) (ks : List Key) → len (gathered pieces ks) ≤ length ks
-gathered_few {Row} pieces [] = omega (arith, len-empty key_cmp Row)
-gathered_few {Row} pieces (k ∷ ks) = go (get (pieces k) k) (gathered_few pieces ks)
-  where
-    go : (o : Option Row) → len (gathered pieces ks) ≤ length ks → len (put_some (gathered pieces ks) k o) ≤ suc (length ks)
-    go None few = omega (arith, few)
-    go (Some row) few = omega (arith, few, len-insert-le (gathered pieces ks) k row)
 
 same_key : (a b : Key) → eq_by_cmp key_cmp a b ≡ true → a ≡ b
 same_key a b e = key_cmp_exact a b ((Equal-is (key_cmp a b)).0 e)

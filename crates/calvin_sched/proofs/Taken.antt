@@ -1,6 +1,5 @@
 -- Which snapshots can be taken, by what is kept of the progress of a scheduler; and points at the end of an epoch.
-use Rattle.std.proofs.Common.{◌≡◌, ℕ, Bool, true, false, cond, ◌&&◌, List, Option, Some, None, refl, sym, ap, ◌∙◌}
-use Rattle.std.proofs.lemmas.Bool.{false≢true}
+use Rattle.std.proofs.Common.{◌≡◌, ℕ, Bool, true, false, cond, ◌&&◌, List, Option, Some, None, refl, ap, ◌∙◌}
 use Rattle.std.specs.Prelude.{nat_le}
 use Rattle.std.specs.FinMap.{FinMap}
 use Rattle.std.specs.Ordering.{eq_by_cmp}
@@ -44,14 +43,6 @@ module _ {Args Row : Type 0} (merged : ℕ) (due : List Place) (n : ℕ) (s : Sc
 
   pub taken_of : takeable ≡ true → takes_effect (take_rows merged due n s) ≡ true
   taken_of h = ap takes_effect (take_is ∙ ap (λ b. cond b taken (Refuses fault.NotAtEnd)) h)
-
-  -- what takes effect takes the rows, and closes the point
-  pub does_take : takes_effect (take_rows merged due n s) ≡ true → take_rows merged due n s ≡ taken
-  does_take h = take_is ∙ go takeable (sym (ap takes_effect take_is) ∙ h)
-    where
-      go : (b : Bool) → takes_effect (cond b taken (Refuses fault.NotAtEnd)) ≡ true → cond b taken (Refuses fault.NotAtEnd) ≡ taken
-      go true e = refl
-      go false e = absurd (false≢true e)
 
 module _ {Args Row : Type 0} (opened : ℕ) (last : Option Place) (kept : FinMap {K = Place} place_cmp (Kept Args Row)) (store : Store Row) (merged done : ℕ) (due : List Place)
     (is : IsProgress opened last (turns_of kept) merged done due) (n : ℕ) where

@@ -51,13 +51,21 @@ module _ {Args Row : Type 0} where
 
   -- ---- admit
 
+  -- a place is after the last one, and not before the opening one
+  abbrev pub is_next : Scheduling Args Row → Place → Bool
+  is_next s q = is_past s.last q && not (is_before q s.opened_from)
+
   -- a request waits for its locks; one with no key here is passed over
   abbrev pub admitted : Site → Scheduling Args Row → Place → Txn Args → Scheduling Args Row
   admitted here s q t = record (if has_local_key here t then with_turn s q (new_turn t) else s) { last = Some q }
 
-  -- a request is admitted in the order: its place is after the last one, and not before the opening one
+  -- a request is admitted in the order
   abbrev pub admit : Site → Place → Txn Args → Scheduling Args Row → Deed (Scheduling Args Row) (Unit {0})
-  admit here q t s = if is_past s.last q && not (is_before q s.opened_from) then Does (admitted here s q t) tt else Refuses fault.AdmittedOutOfOrder
+  admit here q t s = if is_next s q then Does (admitted here s q t) tt else Refuses fault.AdmittedOutOfOrder
+
+  -- it is admitted, and neither refused nor passed over: its place is the next one, and a key is stored here
+  abbrev pub takes : Site → Scheduling Args Row → Place → Txn Args → Bool
+  takes here s q t = is_next s q && has_local_key here t
 
   -- ---- begin
 

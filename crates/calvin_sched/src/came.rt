@@ -35,9 +35,9 @@ impl<Row: Copy> Arrival<Row> {
     }
 }
 
-/// At most one view of each partition. The rows of all of them stand in one list, in the order in which they came, so that they
-/// take no more memory than they need, where a `View` has places for sixteen. Room for the views of some more partitions can be
-/// reserved, which is room for sixteen rows of each; what is left of it is given back when the last of them comes.
+/// At most one view of each partition. The rows of all of them stand in one list, in the order in which they came. Room for the
+/// views of some more partitions can be reserved, which is room for sixteen rows of each, as a `View` has. When the last of them
+/// comes the rows move to memory of just their size, if there is some, and all that they had is given back; else they stay there.
 #[derive(Drop)]
 pub struct Came<A: App> {
     arrivals: Vec<Arrival<A::Row>>,
@@ -103,8 +103,24 @@ impl<A: App> Came<A> {
         push_view(&mut self.arrivals, partition, view);
         self.room -= 1;
         if self.room == 0 {
-            self.arrivals.shrink_to_fit();
+            self.fit();
         }
+    }
+
+    /// The rows move to memory of just their size, if there is some, and all that they had is given back; else they stay there. It
+    /// isn't shrunk in place: what that leaves is too small for the room of another request.
+    fn fit(&mut self)
+        requires { self.old.room ≡ 0 }
+        ensures { self.new ≡ self.old }
+    {
+        if self.arrivals.len() == self.arrivals.capacity() {
+            return;
+        }
+        let alloc = *self.arrivals.allocator();
+        let Ok(fitting) = Vec::from_slice(alloc, self.arrivals.as_slice()) else {
+            return;
+        };
+        self.arrivals = fitting;
     }
 
     /// Room for the rows of so many partitions at least.

@@ -31,12 +31,13 @@ impl<A: App, L: Locks + Drop, S: Rows<A::Row> + Drop> Scheduler<A, L, S> {
     {
         let turn = self.due(place)?;
         let txn = turn.txn();
+        let mut view = View::new();
         if turn.reads_here_alone(&self.config, self.partition) {
-            run_on(app, txn, &turn.served(), answer, writes);
+            turn.put_served(&mut view);
         } else {
-            let view = turn.whole_view(&self.config, self.partition);
-            run_on(app, txn, &view, answer, writes);
+            turn.put_whole(&self.config, self.partition, &mut view);
         }
+        run_on(app, txn, &view, answer, writes);
         Ok((txn.id, txn.attempt))
     }
 

@@ -1,5 +1,5 @@
 //! The scheduler of one partition.
-ghost use Rattle.std.specs.Prelude.{◌≡◌, ◌&&◌, ◌+◌, ◌^◌, ◌≤◌, [], false, true, None, Some, Ok, MatchOption, not, max, length, IfOk, IfErr, OnOk, OnErr, IsOk, IsOkUnless};
+ghost use Rattle.std.specs.Prelude.{◌≡◌, ◌+◌, ◌^◌, ◌≤◌, [], false, true, None, Some, Ok, MatchOption, max, length, IfOk, IfErr, OnOk, OnErr, IsOk, IsOkUnless};
 ghost use Rattle.std.specs.List.{list_any};
 ghost use Rattle.std.specs.FinMap as map;
 ghost use Rattle.calvin_types.specs.Deeds.{Refuses, Did};
@@ -9,7 +9,7 @@ ghost use Rattle.calvin_order.specs.Merged.{end_of};
 ghost use Rattle.calvin_sched.specs.Keeping.{awaited, awaits_at, IsFirstReadyHere, IsNotDue, Finished};
 ghost use Rattle.calvin_sched.specs.Progress.{left, merge};
 ghost use Rattle.calvin_sched.specs.Standing.{local_places, stands_at};
-ghost use Rattle.calvin_sched.specs.Scheduling.{Turn as Turning, new_turn, opened, is_past, is_before, turn_at, whole_view, local_writes};
+ghost use Rattle.calvin_sched.specs.Scheduling.{Turn as Turning, new_turn, opened, turn_at, whole_view, local_writes};
 ghost use Rattle.calvin_sched.specs.Steps as steps;
 ghost use Rattle.calvin_sched.specs.declared.phase.Phase.TheVariants.{Waiting};
 
@@ -134,7 +134,7 @@ impl<A: App, L: Locks + Drop, S: Rows<A::Row> + Drop> Scheduler<A, L, S> {
 
     /// Whether a place is after the last one, and not of an epoch before the opening one.
     fn is_next(&self, place: Place) -> bool
-        ensures { result ≡ (is_past self.now.scheduling.last place && not (is_before place self.now.scheduling.opened_from)) }
+        ensures { result ≡ steps.is_next self.now.scheduling place }
     {
         let is_past = match self.last {
             Some(last) => last < place,
@@ -165,7 +165,7 @@ impl<A: App, L: Locks + Drop, S: Rows<A::Row> + Drop> Scheduler<A, L, S> {
     /// Whether a request is admitted here, and not refused or passed over: its place is after the last one and not of an epoch
     /// before the opening one, and a key is stored here.
     pub fn takes(&self, place: Place, txn: &Txn<A::Args>) -> bool
-        ensures { result ≡ (is_past self.now.scheduling.last place && not (is_before place self.now.scheduling.opened_from) && has_local_key self.now.here txn.now) }
+        ensures { result ≡ steps.takes self.now.here self.now.scheduling place txn.now }
     {
         self.is_next(place) && txn.is_participant(&self.config, self.partition)
     }
@@ -188,8 +188,8 @@ impl<A: App, L: Locks + Drop, S: Rows<A::Row> + Drop> Scheduler<A, L, S> {
     /// The same as `admit`, of a request that isn't admitted here, as `takes` tells: it is refused with `AdmittedOutOfOrder`, or
     /// passed over. It takes no memory.
     pub fn pass_over(&mut self, place: Place, txn: &Txn<A::Args>) -> Result<(), Fault>
-        requires { (is_past self.old.scheduling.last place && not (is_before place self.old.scheduling.opened_from) && has_local_key self.old.here txn.now) ≡ false }
-        ensures did { Did (has_local_key self.old.here txn.now) result (steps.admit self.old.here place txn.now self.old.scheduling) self.old.scheduling self.new.scheduling }
+        requires { steps.takes self.old.here self.old.scheduling place txn.now ≡ false }
+        ensures did { Did false result (steps.admit self.old.here place txn.now self.old.scheduling) self.old.scheduling self.new.scheduling }
         ensures rest { self.new ≡ record self.old { scheduling = self.new.scheduling } }
     {
         if !self.is_next(place) {
@@ -202,7 +202,7 @@ impl<A: App, L: Locks + Drop, S: Rows<A::Row> + Drop> Scheduler<A, L, S> {
     /// The same as `admit`, of a request that is admitted here, as `takes` tells, and isn't copied: it stays in the memory in
     /// which it lies. Refused with `OutOfMemory` where a growth was refused.
     pub fn admit_shared(&mut self, place: Place, txn: SharedTxn<A::Args>) -> Result<(), Fault>
-        requires { (is_past self.old.scheduling.last place && not (is_before place self.old.scheduling.opened_from) && has_local_key self.old.here txn) ≡ true }
+        requires { steps.takes self.old.here self.old.scheduling place txn ≡ true }
         ensures did { Did (has_local_key self.old.here txn) result (steps.admit self.old.here place txn self.old.scheduling) self.old.scheduling self.new.scheduling }
         ensures rest { self.new ≡ record self.old { scheduling = self.new.scheduling } }
     {
@@ -286,7 +286,8 @@ impl<A: App, L: Locks + Drop, S: Rows<A::Row> + Drop> Scheduler<A, L, S> {
     }
 
     /// Keeps the rows that came from another partition for the request at a place. Refused with `NotAwaited` where it isn't
-    /// admitted, is done, isn't run here, reads nothing there, or has these rows. It takes no memory.
+    /// admitted, is done, isn't run here, reads nothing there, or has these rows. It is never refused for memory: with the
+    /// last rows that it awaits, all that came move to memory of just their size, but only if there is some.
     pub fn on_reads(&mut self, place: Place, from: u8, rows: &View<A::Row>) -> Result<(), Fault>
         ensures did { Did false result (steps.on_reads self.old.here place from rows.now self.old.scheduling) self.old.scheduling self.new.scheduling }
         ensures rest { self.new ≡ record self.old { scheduling = self.new.scheduling } }

@@ -12,13 +12,13 @@ const SITES: usize = MOST_PARTITIONS as usize;
 
 /// Of each partition whether it stores a key of some set, and the least of those that do, if there is a key.
 #[derive(Drop)]
-pub(crate) struct Sites {
+struct Storers {
     stores: [bool; SITES],
     least: Option<u8>,
 }
 
 /// The partitions that store the keys of a set.
-fn sites_of(keys: &KeySet, config: &Config) -> Sites
+fn storers_of(keys: &KeySet, config: &Config) -> Storers
     ensures stores { (p : ℕ) → p < SITES → slice_index_or result.stores p false ≡ list_any (is_local (site config.now.partitions p)) keys.now }
     ensures least { IsLeastOf config.now.partitions keys.now result.least }
 {
@@ -29,22 +29,22 @@ fn sites_of(keys: &KeySet, config: &Config) -> Sites
         stores[partition as usize] = true;
         least = lesser(least, Some(partition));
     }
-    Sites { stores, least }
+    Storers { stores, least }
 }
 
 /// Of each partition whether it stores a key of a set.
 pub(crate) fn storing(keys: &KeySet, config: &Config) -> [bool; SITES]
     ensures { (p : ℕ) → p < SITES → slice_index_or result p false ≡ list_any (is_local (site config.now.partitions p)) keys.now }
 {
-    sites_of(keys, config).stores
+    storers_of(keys, config).stores
 }
 
 /// Of each partition whether it runs a request: it stores a key that is written, or is the least participant.
 pub(crate) fn running<Args: Copy>(txn: &Txn<Args>, config: &Config) -> [bool; SITES]
     ensures { (p : ℕ) → p < SITES → slice_index_or result p false ≡ is_active (site config.now.partitions p) txn.now }
 {
-    let reads = sites_of(&txn.sets.reads, config);
-    let writes = sites_of(&txn.sets.writes, config);
+    let reads = storers_of(&txn.sets.reads, config);
+    let writes = storers_of(&txn.sets.writes, config);
     let mut runs = writes.stores;
     match lesser(reads.least, writes.least) {
         Some(least) => runs[least as usize] = true,

@@ -121,6 +121,14 @@ impl<A: App> Turn<A> {
         self.served.view()
     }
 
+    /// Puts the rows that were read here among those of a view, of which there are none yet.
+    pub(crate) fn put_served(&self, view: &mut View<A::Row>)
+        requires { view.old ≡ map.empty }
+        ensures { view.new ≡ self.now.turn.served }
+    {
+        self.served.put_into(view);
+    }
+
     /// Whether rows of another partition are still to come.
     pub(crate) fn awaits(&self, config: &Config, partition: u8, from: u8) -> bool
         ensures { result ≡ awaits (site config.now.partitions partition) self.now.turn from }
@@ -212,16 +220,24 @@ impl<A: App> Turn<A> {
     pub(crate) fn whole_view(&self, config: &Config, partition: u8) -> View<A::Row>
         ensures { result ≡ whole_view (site config.now.partitions partition) self.now.turn }
     {
+        let mut view = View::new();
+        self.put_whole(config, partition, &mut view);
+        view
+    }
+
+    /// Puts the rows of all keys that are read among those of a view, of which there are none yet.
+    pub(crate) fn put_whole(&self, config: &Config, partition: u8, view: &mut View<A::Row>)
+        requires { view.old ≡ map.empty }
+        ensures { view.new ≡ whole_view (site config.now.partitions partition) self.now.turn }
+    {
         let keys = self.reads();
-        let mut whole = View::new();
         for done in 0..keys.len() {
             let key = keys.at(keys.len() - 1 - done);
             match self.piece(config, partition, &key) {
-                Some(row) => whole.put(key, row),
+                Some(row) => view.put(key, row),
                 None => {}
             }
         }
-        whole
     }
 
     /// The other partitions that run the request, ascending.

@@ -1,11 +1,12 @@
 //! The admitted requests by their places.
-ghost use Rattle.std.specs.Prelude.{◌≡◌, ◌↔◌, ◌-◌, ◌<◌, None, Some, slice_get, max, IfSome, IsOk, IsSome, IsTrue, OnOk, OnErr, IsOkUnless, MatchOption};
+ghost use Rattle.std.specs.Prelude.{◌≡◌, ◌↔◌, ◌-◌, ◌≤◌, ◌<◌, None, length, max, vec_len, vec_capacity, IfSome, IsTrue, OnOk, OnErr, IsOkUnless, MatchOption, MatchResult};
 ghost use Rattle.std.specs.Option.{ForSome, option_copied};
 ghost use Rattle.std.specs.FinMap as map;
 ghost use Rattle.calvin_types.specs.Participants.{site};
 ghost use Rattle.calvin_types.specs.Places.{place_cmp};
-ghost use Rattle.calvin_sched.specs.Keeping.{Kept, turns_of};
+ghost use Rattle.calvin_sched.specs.Keeping.{turns_of};
 ghost use Rattle.calvin_sched.specs.Scheduling.{turn_done};
+ghost use Rattle.calvin_sched.specs.Seating.{rising, IsAt, IsMissingAt};
 ghost use Rattle.calvin_sched.specs.Steps.{begun_turn, with_rows};
 ghost use Rattle.calvin_sched.specs.declared.phase.Phase.TheVariants.{Done};
 
@@ -13,26 +14,24 @@ use crate::turn::Turn;
 use calvin_app::{App, View};
 use calvin_store::Rows;
 use calvin_types::{Config, Fault, Place};
-use indexmap::IndexMap;
 use std::alloc::Global;
 use std::marker::Model;
 
-/// At most one admitted request at each place. Room for one more can be reserved. They stand in the order in which they were
-/// put, and one is looked for first where one was looked for last, then where rows came last, and behind each of these: most
-/// of them begin, are run and are finished in this order, and so rows come.
+/// At most one admitted request at each place. Room for one more can be reserved. They stand in the order of their places, in
+/// which most are put, begin, are run and are finished; where partitions are few, rows come in it too. So one is looked for first
+/// where one was looked for last, then where rows came last, and behind each of these. Any other is found in logarithmic time.
 #[derive(Drop)]
 pub struct Turns<A: App> {
-    turns: IndexMap<Place, Turn<A>>,
+    turns: Vec<(Place, Turn<A>)>,
     near: usize,
     near_came: usize,
     room: usize,
 }
 
 impl<A: App> Model for Turns<A> {
-    ghost use Rattle.std.specs.Prelude.{◌≤◌};
-    ghost use Rattle.std.specs.FinMap.{from_entries};
-    ghost use Rattle.indexmap.specs.IndexMap.{spare};
+    ghost use Rattle.std.specs.Prelude.{◌-◌, ◌≤◌, vec_len, vec_capacity};
     ghost use Rattle.calvin_sched.specs.Keeping.{Seats};
+    ghost use Rattle.calvin_sched.specs.Seating.{rising, seated};
     ghost use Rattle.std.specs.Coded.{codes};
     ghost use Rattle.std.specs.FinMap.{code};
 
@@ -40,24 +39,24 @@ impl<A: App> Model for Turns<A> {
 
     ghost coded = { Prim.hlevel (codes, code) };
 
-    ghost view = { λ t. record { kept = from_entries t.turns.entries; room = t.room } };
+    ghost view = { λ t. record { kept = seated t.turns.items; room = t.room } };
 
-    ghost invariant = { λ t. t.room ≤ spare t.turns };
+    ghost invariant = { λ t. rising t.turns.items × (t.room ≤ vec_capacity t.turns - vec_len t.turns) };
 }
 
 /// Whether there is a request with so many before it, and it is at a place.
-fn is_at<A: App>(turns: &IndexMap<Place, Turn<A>>, number: usize, place: Place) -> bool
-    ensures { IsTrue result ↔ ((k : Kept A.Args A.Row) × (slice_get turns.now.entries number ≡ Some (place, k))) }
+fn is_at<A: App>(turns: &[(Place, Turn<A>)], number: usize, place: Place) -> bool
+    ensures { IsTrue result ↔ IsAt place turns.now number }
 {
-    match turns.get_index(number) {
+    match turns.get(number) {
         Some((other, _)) => *other == place,
         None => false,
     }
 }
 
 /// How many requests stand before the one at a place, where these are `near` or one more.
-fn number_near<A: App>(turns: &IndexMap<Place, Turn<A>>, place: Place, near: usize) -> Option<usize>
-    ensures { IfSome result (λ i. (k : Kept A.Args A.Row) × (slice_get turns.now.entries i ≡ Some (place, k))) }
+fn number_near<A: App>(turns: &[(Place, Turn<A>)], place: Place, near: usize) -> Option<usize>
+    ensures { IfSome result (IsAt place turns.now) }
 {
     if is_at(turns, near, place) {
         return Some(near);
@@ -69,15 +68,24 @@ fn number_near<A: App>(turns: &IndexMap<Place, Turn<A>>, place: Place, near: usi
     None
 }
 
+/// How many requests stand before the one at a place, or would stand before one that is put there.
+fn search<A: App>(turns: &[(Place, Turn<A>)], place: Place) -> Result<usize, usize>
+    requires { rising turns.now }
+    ensures { MatchResult result (IsAt place turns.now) (IsMissingAt place turns.now) }
+{
+    turns.binary_search_by_key(&place, |(other, _)| *other)
+}
+
 /// How many requests stand before the one at a place, if that is there. It is looked for first with `near` before it or one
 /// more, and then so with `other`.
 fn number_of<A: App>(
-    turns: &IndexMap<Place, Turn<A>>,
+    turns: &[(Place, Turn<A>)],
     place: Place,
     near: usize,
     other: usize,
 ) -> Option<usize>
-    ensures { MatchOption result (map.get (map.from_entries {R = place_cmp} turns.now.entries) place ≡ None) (λ i. (k : Kept A.Args A.Row) × (slice_get turns.now.entries i ≡ Some (place, k))) }
+    requires { rising turns.now }
+    ensures { MatchOption result (map.find place_cmp place turns.now ≡ None) (IsAt place turns.now) }
 {
     if let Some(number) = number_near(turns, place, near) {
         return Some(number);
@@ -85,8 +93,48 @@ fn number_of<A: App>(
     if let Some(number) = number_near(turns, place, other) {
         return Some(number);
     }
-    let (number, _, _) = turns.get_full(&place)?;
-    Some(number)
+    search(turns, place).ok()
+}
+
+/// Whether a place is past those of all requests.
+fn is_past_all<A: App>(turns: &[(Place, Turn<A>)], place: Place) -> bool
+    requires { rising turns.now }
+    ensures { IsTrue result → IsMissingAt place turns.now (length turns.now) }
+{
+    match turns.last() {
+        Some((last, _)) => *last < place,
+        None => true,
+    }
+}
+
+/// Puts a request at a place, in place of the one that is there, or else between those before it and those past it. There is
+/// room for it. It stands apart from `put`, since it is rarely needed.
+#[inline(never)]
+fn put_among<A: App>(turns: &mut Vec<(Place, Turn<A>)>, place: Place, turn: Turn<A>)
+    requires rises { rising turns.old.items }
+    requires room { vec_len turns.old < vec_capacity turns.old }
+    ensures items { turns.new.items ≡ map.put place_cmp place turn turns.old.items }
+    ensures room { vec_capacity turns.old - vec_len turns.old - 1 ≤ vec_capacity turns.new - vec_len turns.new }
+{
+    match search(turns, place) {
+        Ok(number) => turns[number] = (place, turn),
+        Err(number) => turns.insert(number, (place, turn)).unwrap(),
+    }
+}
+
+/// Puts a request at a place, in place of the one that is there. There is room for it. Requests that are put in the order of
+/// their places are each found at once to be past the others.
+fn put<A: App>(turns: &mut Vec<(Place, Turn<A>)>, place: Place, turn: Turn<A>)
+    requires rises { rising turns.old.items }
+    requires room { vec_len turns.old < vec_capacity turns.old }
+    ensures items { turns.new.items ≡ map.put place_cmp place turn turns.old.items }
+    ensures room { vec_capacity turns.old - vec_len turns.old - 1 ≤ vec_capacity turns.new - vec_len turns.new }
+{
+    if is_past_all(turns, place) {
+        turns.push_reserved((place, turn));
+    } else {
+        put_among(turns, place, turn);
+    }
 }
 
 impl<A: App> Turns<A> {
@@ -95,7 +143,7 @@ impl<A: App> Turns<A> {
         ensures { result ≡ record { kept = map.empty; room = 0 } }
     {
         Turns {
-            turns: IndexMap::new(alloc),
+            turns: Vec::new(alloc),
             near: 0,
             near_came: 0,
             room: 0,
@@ -114,7 +162,7 @@ impl<A: App> Turns<A> {
         ensures { option_copied result ≡ map.get self.now.kept place }
     {
         let number = number_of(&self.turns, place, near, self.near_came)?;
-        let (_, turn) = self.turns.get_index(number)?;
+        let (_, turn) = &self.turns[number];
         Some(turn)
     }
 
@@ -156,8 +204,7 @@ impl<A: App> Turns<A> {
         requires { 0 < self.old.room }
         ensures { self.new ≡ record { kept = map.insert self.old.kept place turn; room = self.old.room - 1 } }
     {
-        let put: Result<_, _> = self.turns.insert(place, turn);
-        let _before = put.unwrap();
+        put(&mut self.turns, place, turn);
         self.room -= 1;
     }
 
@@ -174,7 +221,7 @@ impl<A: App> Turns<A> {
             return;
         };
         self.near = number;
-        let (_, turn) = self.turns.pair_mut(number);
+        let (_, turn) = &mut self.turns[number];
         turn.begin(config, partition, rows);
     }
 
@@ -188,7 +235,7 @@ impl<A: App> Turns<A> {
             return;
         };
         self.near_came = number;
-        let (_, turn) = self.turns.pair_mut(number);
+        let (_, turn) = &mut self.turns[number];
         turn.receive(from, rows);
     }
 
@@ -200,7 +247,7 @@ impl<A: App> Turns<A> {
             return;
         };
         self.near = number;
-        let (_, turn) = self.turns.pair_mut(number);
+        let (_, turn) = &mut self.turns[number];
         turn.finish();
     }
 }

@@ -1,14 +1,16 @@
-use Rattle.std.proofs.Common.{Some, sym, ap, ◌∙◌}
+use Rattle.std.proofs.Common.{Some, refl, sym, ap, ◌∙◌, arith}
 use Rattle.std.proofs.lemmas.Bool.{false≢true}
-use Rattle.std.proofs.lemmas.Option.{none-some, same_Some}
-use Rattle.calvin_sched.proofs.PlaceMaps.{place_eq, place_eq_exact, place_eq_self}
+use Rattle.std.proofs.lemmas.Option.{same_Some, slice_get_within, slice_get_read}
+use Rattle.calvin_sched.proofs.PlaceTests.{place_eq, place_eq_exact, place_eq_self}
 use Rattle.calvin_sched.proofs.turns.is_at.Goals as goal
 
 pub returns-in-Some : goal.returns-in-Some
-returns-in-Some g c = (
-  λ yes. (c.in-Some.field-0-1.now, sym c.in-Some.ensures.entry ∙ ap (λ q. Some (q, c.in-Some.field-0-1.now)) (place_eq_exact c.in-Some.other.now c.args.place (sym c.eq.ensures ∙ yes))),
-  λ there. c.eq.ensures ∙ ap (λ q. place_eq q c.args.place) (ap (λ (e : _ × _). e.0) (same_Some _ _ (c.in-Some.ensures.entry ∙ there.1))) ∙ place_eq_self c.args.place,
-)
+returns-in-Some g c =
+    let seat = c.in-Some.field-0.now in
+    let there = slice_get_read c.args.turns.now _ c.args.number seat refl c.in-Some.ensures.lookup.3.0 c.in-Some.ensures.lookup.1 in (
+      λ yes. (seat.1, there ∙ ap (λ q. Some (q, seat.1)) (place_eq_exact seat.0 c.args.place (sym c.eq.ensures ∙ yes))),
+      λ at. c.eq.ensures ∙ ap (λ q. place_eq q c.args.place) (ap (λ (e : _ × _). e.0) (same_Some _ _ (sym there ∙ at.1))) ∙ place_eq_self c.args.place,
+    )
 
 pub returns-in-None : goal.returns-in-None
-returns-in-None g c = (λ no. absurd (false≢true no), λ there. absurd (none-some _ (c.in-None.ensures.entry ∙ there.1)))
+returns-in-None g c = (λ no. absurd (false≢true no), λ at. absurd (omega (arith, c.in-None.ensures.lookup.3, slice_get_within c.args.turns.now c.args.number _ at.1)))

@@ -1,6 +1,7 @@
 use Rattle.std.proofs.Common.{◌≡◌, ◌+◌, ◌++◌, cond, if◌then◌else◌, vec_len, Some, List, [], sym, ap, ◌∙◌, arith, append_assoc, false, None}
 use Rattle.std.specs.FinMap as map
 use Rattle.calvin_types.specs.declared.key.Key.{Key}
+use Rattle.calvin_types.specs.declared.key_set.Sets.{Sets}
 use Rattle.calvin_types.specs.declared.place.Place.{Place}
 use Rattle.calvin_lock.specs.declared.queue.Ask.{Ask}
 use Rattle.calvin_lock.specs.declared.queue.Kind.TheVariants as kind
@@ -50,11 +51,13 @@ invariant_of-self-2 c =
     let k = c.self.invariant in
     let p : Pending = record { sets = record { reads = c.args.reads.now; writes = c.args.writes.now }; waits = c.join-exclusive.result + c.join-shared.result; near = vec_len c.reserve.new.unreleased.order } in
     let asks : Key → List Ask = λ key. asks_of key k.requests in
-    let updated = λ (q : Place). c.add.ensures.places q ∙ ap (λ es. cond (equal_places c.args.place q) (Some p) (pending_at es q)) c.reserve.ensures.places in
+    let kept : Sets → Pending = λ sets. record { sets = sets; waits = p.waits; near = p.near } in
+    let updated = λ (q : Place). c.add.ensures.places q ∙ ap (λ sets. cond (equal_places c.args.place q) (Some (kept sets)) (pending_at c.reserve.new.unreleased.places.entries q)) c.in_ok-sets.ensures.ok
+    ∙ ap (λ es. cond (equal_places c.args.place q) (Some p) (pending_at es q)) c.reserve.ensures.places in
     let exclusive = c.join-exclusive.ensures.kept asks (c.reserve.ensures.queues asks k.asked.served) in
-    let shared = c.join-shared.ensures.kept (λ key. asks key ++ ask_if c.args.place kind.Exclusive (asked c.args.writes.now c.new.result key)) exclusive in
+    let shared = c.join-shared.ensures.kept (λ key. asks key ++ ask_if c.args.place kind.Exclusive (asked c.args.writes.now c.new-2.result key)) exclusive in
     let joined = same_asks _ (λ key. asks key ++ ask_of key (c.args.place, p.sets)) c.join-shared.new.self.queues.entries (λ key.
-    ap (λ l. (asks key ++ ask_if c.args.place kind.Exclusive (asked c.args.writes.now l key)) ++ ask_if c.args.place kind.Shared (asked c.args.reads.now c.args.writes.now key)) c.new.ensures
+    ap (λ l. (asks key ++ ask_if c.args.place kind.Exclusive (asked c.args.writes.now l key)) ++ ask_if c.args.place kind.Shared (asked c.args.reads.now c.args.writes.now key)) c.new-2.ensures
     ∙ append_assoc (asks key) (ask_if c.args.place kind.Exclusive (asked c.args.writes.now [] key)) (ask_if c.args.place kind.Shared (asked c.args.reads.now c.args.writes.now key))) shared in
     let others : (key : Key) → asked c.args.writes.now [] key ≡ false → asked c.args.reads.now c.args.writes.now key ≡ false → queue_at c.self.inside.queues.queues.entries key ≡ None → queue_at c.join-shared.new.self.queues.entries key ≡ None = λ key unwritten unread none. c.join-shared.ensures.none_new key (c.join-exclusive.ensures.none_new key (c.reserve.ensures.others key unwritten unread none)) in
     let counted : (q : Place) → waits_of q c.join-shared.new.self.queues.entries ≡ waits_of q c.self.inside.queues.queues.entries + (if equal_places q c.args.place then p.waits else 0) = λ q.
@@ -69,7 +72,9 @@ pub returns-clause-ok : goal.returns-clause-ok
 returns-clause-ok c =
     let k = c.self.invariant in
     let p : Pending = record { sets = record { reads = c.args.reads.now; writes = c.args.writes.now }; waits = c.join-exclusive.result + c.join-shared.result; near = vec_len c.reserve.new.unreleased.order } in
-    let updated = λ (q : Place). c.add.ensures.places q ∙ ap (λ es. cond (equal_places c.args.place q) (Some p) (pending_at es q)) c.reserve.ensures.places in
+    let kept : Sets → Pending = λ sets. record { sets = sets; waits = p.waits; near = p.near } in
+    let updated = λ (q : Place). c.add.ensures.places q ∙ ap (λ sets. cond (equal_places c.args.place q) (Some (kept sets)) (pending_at c.reserve.new.unreleased.places.entries q)) c.in_ok-sets.ensures.ok
+    ∙ ap (λ es. cond (equal_places c.args.place q) (Some p) (pending_at es q)) c.reserve.ensures.places in
     let is = requested_map c.self.inside.queues.queues.entries c.self.inside.unreleased c.self.inside.last k c.args.place (c.is_past.ensures.0 c.if-not-is_past.false) c.add.new.self p updated
     ∙ ap (λ l. map.insert l.requested c.args.place p.sets) c.self.view_is in
     λ i. record { requested = is i; last = Some c.args.place }

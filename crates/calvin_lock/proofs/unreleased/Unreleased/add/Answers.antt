@@ -41,8 +41,8 @@ returns-then-waits-eq0-clause-order c = λ q there before. elim (among_push c.ar
   | inr old ↦ not_both c.args.place q before (c.requires.last q old)
 ]
 
-pub returns-else-waits-eq0-clause-kept : goal.returns-else-waits-eq0-clause-kept
-returns-else-waits-eq0-clause-kept c =
+pub returns-clause-kept : goal.returns-clause-kept
+returns-clause-kept c =
     let es = c.args.self.now.places.entries in
     let xs = c.args.self.now.order.items in
     let now = c.insert-added.new.self.entries in
@@ -64,8 +64,8 @@ returns-else-waits-eq0-clause-kept c =
           ) k);
     }
 
-pub returns-else-waits-eq0-clause-order : goal.returns-else-waits-eq0-clause-order
-returns-else-waits-eq0-clause-order c = λ q there before. elim (among_push c.args.self.now.order.items c.args.place q (subst (λ l. Among l q) c.push_reserved.ensures.items there)) [
+pub returns-clause-order : goal.returns-clause-order
+returns-clause-order c = λ q there before. elim (among_push c.args.self.now.order.items c.args.place q (subst (λ l. Among l q) c.push_reserved.ensures.items there)) [
   | inl same ↦ not_before_itself q (subst (λ p. IsBefore p q) same before)
   | inr old ↦ not_both c.args.place q before (c.requires.last q old)
 ]

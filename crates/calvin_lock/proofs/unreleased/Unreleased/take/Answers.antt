@@ -1,5 +1,5 @@
 use Rattle.std.proofs.Common.{◌≡◌, Some, None, subst, sym, ◌∙◌, arith}
-use Rattle.std.proofs.lemmas.Option.{none-some}
+use Rattle.std.proofs.lemmas.Option.{none-some, same_Some}
 use Rattle.calvin_lock.specs.Marks.{is_marked}
 use Rattle.calvin_lock.specs.Unreleased.{IsNumberOf}
 use Rattle.calvin_lock.proofs.ReadyPlaces.{entry_now, listed_now, marked_at, neither}
@@ -10,8 +10,8 @@ pub returns-clause-kept : goal.returns-clause-kept
 returns-clause-kept c =
     let es = c.args.self.now.places.entries in
     let xs = c.args.self.now.order.items in
-    let now = c.swap_remove_index-taken.new.self.entries in
-    let updated = gone_at c.args.self.now.places c.args.place c.in_ok-at.field-0-1.now c.in_ok-at.pending.now c.in_ok-at.at c.in_ok-at.ensures.key c.in_ok-at.ensures.entry c.swap_remove_index-taken.result c.swap_remove_index-taken.ensures.entry c.swap_remove_index-taken.new.self c.swap_remove_index-taken.ensures.updates in
+    let now = c.swap_remove_index.new.self.entries in
+    let updated = gone_at c.args.self.now.places c.args.place c.in_ok-at.field-0-1.now c.in_ok-at.pending.now c.in_ok-at.at c.in_ok-at.ensures.key c.in_ok-at.ensures.entry c.swap_remove_index.result c.swap_remove_index.ensures.entry c.swap_remove_index.new.self c.swap_remove_index.ensures.updates in
     let number = subst (λ l. IsNumberOf l c.args.place c.in_ok-number.number) c.as_slice.ensures.value c.in_ok-number.ensures in
     record {
       rises = c.requires.rises;
@@ -25,7 +25,8 @@ returns-clause-kept c =
 pub returns-clause-taken : goal.returns-clause-taken
 returns-clause-taken c =
     let p = c.in_ok-at.pending.now in
-    let zero : p.waits ≡ 0 = let few = c.if-pending-gt0.false in omega (arith, few) in (
-      (p.near, sym c.in_ok-at.ensures.value ∙ (λ i. Some (record { sets = p.sets; waits = zero i; near = p.near }))),
-      gone_at c.args.self.now.places c.args.place c.in_ok-at.field-0-1.now p c.in_ok-at.at c.in_ok-at.ensures.key c.in_ok-at.ensures.entry c.swap_remove_index-taken.result c.swap_remove_index-taken.ensures.entry c.swap_remove_index-taken.new.self c.swap_remove_index-taken.ensures.updates,
+    let zero : p.waits ≡ 0 = let few = c.if-pending-gt0.false in omega (arith, few) in
+    let same = same_Some (c.in_ok-at.field-0-1.now, p) (c.in_ok-taken.field-0-0, c.in_ok-taken.taken) (sym (c.in_ok-taken.ensures.entry ∙ c.in_ok-at.ensures.entry)) in (
+      (p.near, sym c.in_ok-at.ensures.value ∙ (λ i. Some (record { sets = (same i).1.sets; waits = zero i; near = p.near }))),
+      gone_at c.args.self.now.places c.args.place c.in_ok-at.field-0-1.now p c.in_ok-at.at c.in_ok-at.ensures.key c.in_ok-at.ensures.entry c.swap_remove_index.result c.swap_remove_index.ensures.entry c.swap_remove_index.new.self c.swap_remove_index.ensures.updates,
     )

@@ -1,4 +1,4 @@
-use Rattle.std.proofs.Common.{sym, ap, ◌∙◌}
+use Rattle.std.proofs.Common.{◌≡◌, sym, ap, ◌∙◌}
 use Rattle.calvin_app.specs.Serial.{answer_on, writes_on}
 use Rattle.calvin_sched.specs.Scheduling.{whole_view}
 use Rattle.calvin_sched.proofs.scheduler.Scheduler.compute.Goals as goal
@@ -9,24 +9,14 @@ returns-clause-ok g c =
     let m = g.A.App.meaning in
     let x = c.in_ok-turn.turn.now.turn in
     let told = c.txn-txn.ensures in
-    let whole = ap (λ v. whole_view v.here x) c.self.view_is in (
+    let whole = ap (λ v. whole_view v.here x) c.self.view_is in
+    let seen : c.if-reads_here_alone.view ≡ whole_view c.args.self.now.here x = elim c.if-reads_here_alone.branch [
+      | then-reads_here_alone w ↦ w.view-is ∙ w.put_served.ensures ∙ sym (c.reads_here_alone.ensures w.if-reads_here_alone.true) ∙ whole
+      | else-reads_here_alone w ↦ w.view-is ∙ w.put_whole.ensures ∙ whole
+    ] in (
       record { place = c.args.place; txn = x.request; view = whole_view c.args.self.now.here x },
       c.in_ok-turn.ensures.ok,
       ap (λ t. (t.id, t.attempt)) told,
-      elim c.if-reads_here_alone.branch [
-        | then-reads_here_alone w ↦
-            let seen = w.served.ensures ∙ sym (c.reads_here_alone.ensures w.if-reads_here_alone.true) ∙ whole in
-            w.answer-is ∙ w.run_on.ensures.answer ∙ (λ i. answer_on m (told i) (seen i))
-        | else-reads_here_alone w ↦
-            let seen = w.whole_view-view.ensures ∙ whole in
-            w.answer-is ∙ w.run_on-else-reads_here_alone.ensures.answer ∙ (λ i. answer_on m (told i) (seen i))
-      ],
-      elim c.if-reads_here_alone.branch [
-        | then-reads_here_alone w ↦
-            let seen = w.served.ensures ∙ sym (c.reads_here_alone.ensures w.if-reads_here_alone.true) ∙ whole in
-            w.writes-is ∙ w.run_on.ensures.writes ∙ (λ i. writes_on m (told i) (seen i))
-        | else-reads_here_alone w ↦
-            let seen = w.whole_view-view.ensures ∙ whole in
-            w.writes-is ∙ w.run_on-else-reads_here_alone.ensures.writes ∙ (λ i. writes_on m (told i) (seen i))
-      ],
+      c.run_on.ensures.answer ∙ (λ i. answer_on m (told i) (seen i)),
+      c.run_on.ensures.writes ∙ (λ i. writes_on m (told i) (seen i)),
     )

@@ -1,25 +1,44 @@
-use Rattle.std.proofs.Common.{sym, ap, ◌∙◌}
+use Rattle.std.proofs.Common.{◌≡◌, None, sym, ap, subst, ◌∙◌, arith}
 use Rattle.std.specs.FinMap as map
-use Rattle.std.proofs.lemmas.Option.{none-some, same_Some}
+use Rattle.std.proofs.lemmas.Option.{none-some, same_Some, slice_get_within}
 use Rattle.calvin_types.specs.Participants.{site}
+use Rattle.calvin_types.specs.Places.{place_cmp}
 use Rattle.calvin_sched.specs.Steps.{begun_turn}
-use Rattle.calvin_sched.proofs.PlaceMaps.{got_at, put_at}
+use Rattle.calvin_sched.specs.Seating.{IsAt}
+use Rattle.calvin_sched.proofs.Seatings.{got_at, missing_there, seat_is, written, written_rises}
 use Rattle.calvin_sched.proofs.turns.Turns.begin.Goals as goal
 
-pub returns-clause-some : goal.returns-clause-some
-returns-clause-some g c = λ k e.
-    let m = c.self.inside.turns in
-    let i = c.in-Some.number in
-    let at = c.in-Some.ensures.1 in
-    let there = sym (ap (λ t. map.get t.kept c.args.place) c.self.view_is) ∙ got_at m i c.args.place c.in-Some.ensures.0 c.pair_mut-turn.ensures.unique at in
-    let old = ap (λ (p : _ × _). p.1) (same_Some _ _ (sym c.pair_mut-turn.ensures.value ∙ at)) ∙ same_Some _ _ (sym there ∙ e) in
-    let after = c.begin.new.self in
-    let now = (λ j. record { turn = c.begin.ensures.turn j; room = c.begin.ensures.room j }) ∙ ap (λ t. record { turn = begun_turn (site c.args.config.now.partitions c.args.partition) (g.S.Rows.store c.args.rows.now).map t.turn; room = t.room }) old in
-    let kept = put_at m i c.args.place c.in-Some.ensures.0 after c.pair_mut-turn.ensures.unique at ∙ ap (λ t. map.insert t.kept c.args.place after) c.self.view_is ∙ ap (map.insert c.args.self.now.kept c.args.place) now in
-    let room = ap (λ t. t.room) c.self.view_is in
-    λ j. record { kept = kept j; room = room j }
+pub returns-in_default-clause-some : goal.returns-in_default-clause-some
+returns-in_default-clause-some g c = λ k e.
+    let missing = subst (λ es. map.find place_cmp c.args.place es ≡ None) c.deref.ensures.value c.in_default.ensures in
+    absurd (none-some k (sym (missing_there c.self.inside.turns.items c.args.place c.self.invariant.0 missing) ∙ ap (λ t. map.get t.kept c.args.place) c.self.view_is ∙ e))
+
+pub index_mut-requires : goal.index_mut-requires
+index_mut-requires g c =
+    let at = subst (λ es. IsAt c.args.place es c.in-Some.number) c.deref.ensures.value c.in-Some.ensures in
+    omega (arith, slice_get_within c.self.inside.turns.items c.in-Some.number _ at.1, c.self.inside.turns.ok.0)
+
+pub invariant_of-self : goal.invariant_of-self
+invariant_of-self g c =
+    let at = subst (λ es. IsAt c.args.place es c.in-Some.number) c.deref.ensures.value c.in-Some.ensures in
+    (written_rises c.self.inside.turns.items c.in-Some.number c.args.place at.0 c.self.invariant.0 at.1 c.index_mut.result.now c.index_mut.ensures.value c.begin.new.self, c.self.invariant.1)
 
 pub returns-clause-none : goal.returns-clause-none
 returns-clause-none g c = λ e.
-    let there = sym (ap (λ t. map.get t.kept c.args.place) c.self.view_is) ∙ got_at c.self.inside.turns c.in-Some.number c.args.place c.in-Some.ensures.0 c.pair_mut-turn.ensures.unique c.in-Some.ensures.1 in
+    let at = subst (λ es. IsAt c.args.place es c.in-Some.number) c.deref.ensures.value c.in-Some.ensures in
+    let there = sym (ap (λ t. map.get t.kept c.args.place) c.self.view_is) ∙ got_at c.self.inside.turns.items c.in-Some.number c.args.place at.0 c.self.invariant.0 at.1 in
     absurd (none-some _ (sym e ∙ there))
+
+pub returns-clause-some : goal.returns-clause-some
+returns-clause-some g c = λ k e.
+    let es = c.self.inside.turns.items in
+    let i = c.in-Some.number in
+    let seat = c.index_mut.result.now in
+    let at = subst (λ es. IsAt c.args.place es i) c.deref.ensures.value c.in-Some.ensures in
+    let there = sym (ap (λ t. map.get t.kept c.args.place) c.self.view_is) ∙ got_at es i c.args.place at.0 c.self.invariant.0 at.1 in
+    let old = ap (λ (p : _ × _). p.1) (seat_is es i c.args.place at.0 c.self.invariant.0 at.1 seat c.index_mut.ensures.value c.begin.new.self) ∙ same_Some _ _ (sym there ∙ e) in
+    let after = c.begin.new.self in
+    let now = (λ j. record { turn = c.begin.ensures.turn j; room = c.begin.ensures.room j }) ∙ ap (λ t. record { turn = begun_turn (site c.args.config.now.partitions c.args.partition) (g.S.Rows.store c.args.rows.now).map t.turn; room = t.room }) old in
+    let kept = written es i c.args.place at.0 c.self.invariant.0 at.1 seat c.index_mut.ensures.value after ∙ ap (λ t. map.insert t.kept c.args.place after) c.self.view_is ∙ ap (map.insert c.args.self.now.kept c.args.place) now in
+    let room = ap (λ t. t.room) c.self.view_is in
+    λ j. record { kept = kept j; room = room j }
