@@ -32,7 +32,8 @@ use Rattle.calvin_node_packets.specs.declared.packet.Packet.{Packet}
 use Rattle.calvin_node_packets.specs.declared.packet.Content.{Content}
 use Rattle.calvin_node_packets.specs.declared.packet.Content.TheVariants as content
 use Rattle.calvin_node_packets.specs.Packets.{answered, replied as replied_to}
-use Rattle.calvin_sched.proofs.PlaceTests.{place_eq, place_eq_exact, place_eq_self}
+use Rattle.calvin_lock.specs.Queues.{equal_places}
+use Rattle.calvin_lock.proofs.PlaceTests.{places_exact, places_self}
 use Rattle.calvin_report.specs.FirstPut.{put_first}
 use Rattle.calvin_report.specs.Replies.{ByPlace, reply_in, replied}
 use Rattle.calvin_report.specs.Notes.{reply_at, noted, IsNote, AreApart, AreInOrder}
@@ -205,7 +206,7 @@ module _ {Args Row Reply : Type 0} where
     pub so_far : entries (from_entries {R = place_cmp} (noted packets notes)) ≡ entries (replied (take i packets))
     pub each : All (IsNote packets) notes
     pub apart : AreApart notes
-    pub same : (q : Place) → list_any (place_eq q) places ≡ list_any (eq_by_cmp place_cmp q) (keys_of notes)
+    pub same : (q : Place) → list_any (equal_places q) places ≡ list_any (eq_by_cmp place_cmp q) (keys_of notes)
 
   module _ (packets : List (Packet Args Row Reply)) (places : List Place) (notes : List (Place × ℕ)) (i : ℕ) (now : Noted packets places notes i) where
     one_on : suc i ≡ i + 1
@@ -227,35 +228,35 @@ module _ {Args Row Reply : Type 0} where
       replied_on : entries (replied (take (i + 1) packets)) ≡ put_first q note.0 (entries (replied (take i packets)))
       replied_on = ap (λ es. entries (from_entries {R = place_cmp} es)) (told_on ∙ ap (λ es. told (take i packets) ++ es) note.1) ∙ first_kept (told (take i packets)) q note.0
 
-      found : list_any (place_eq q) places ≡ true → is_some (find place_cmp q (entries (replied (take i packets)))) ≡ true
+      found : list_any (equal_places q) places ≡ true → is_some (find place_cmp q (entries (replied (take i packets)))) ≡ true
       found there =
           ap (λ (es : ByPlace Reply). is_some (find place_cmp q es)) (sym now.so_far) ∙ ap is_some (find_entries (noted packets notes) q) ∙ is_some-find place_cmp q (noted packets notes)
           ∙ ap (list_any (eq_by_cmp place_cmp q)) (noted_keys packets notes now.each) ∙ sym (now.same q) ∙ there
 
       -- one that replies where one did before
-      pub noted_before : (after : List Place) → after ≡ places → list_any (place_eq q) places ≡ true → Noted packets after notes (i + 1)
+      pub noted_before : (after : List Place) → after ≡ places → list_any (equal_places q) places ≡ true → Noted packets after notes (i + 1)
       noted_before after unchanged there = record {
         so_far = now.so_far ∙ sym (replied_on ∙ ap (λ b. cond b (entries (replied (take i packets))) (put place_cmp q note.0 (entries (replied (take i packets))))) (found there));
         each = now.each;
         apart = now.apart;
-        same = λ p. ap (list_any (place_eq p)) unchanged ∙ now.same p;
+        same = λ p. ap (list_any (equal_places p)) unchanged ∙ now.same p;
       }
 
       -- one that replies where none did
-      pub noted_first : (after : List Place) → ((p : Place) → list_any (place_eq p) after ≡ cond (place_eq q p) true (list_any (place_eq p) places)) → list_any (place_eq q) places ≡ false → Noted packets after (notes ++ (q, i) ∷ []) (i + 1)
+      pub noted_first : (after : List Place) → ((p : Place) → list_any (equal_places p) after ≡ cond (equal_places q p) true (list_any (equal_places p) places)) → list_any (equal_places q) places ≡ false → Noted packets after (notes ++ (q, i) ∷ []) (i + 1)
       noted_first after more absent = record {
         so_far = ap (λ es. entries (from_entries {R = place_cmp} es)) (flat_map-append (λ (n : Place × ℕ). reply_at packets n.1) notes ((q, i) ∷ []) ∙ ap (λ es. noted packets notes ++ es) (append-nil (reply_at packets i) ∙ note.1))
             ∙ first_kept (noted packets notes) q note.0 ∙ ap (put_first q note.0) now.so_far ∙ sym replied_on;
         each = All-push (IsNote packets) notes (q, i) now.each note;
         apart = subst (IsDistinct (eq_by_cmp place_cmp)) (sym keys_on) (IsDistinct-push (eq_by_cmp_equiv place_total) (keys_of notes) q now.apart (sym (now.same q) ∙ absent));
-        same = λ p. more p ∙ ap (λ b. cond (place_eq q p) true b) (now.same p) ∙ one_more p ∙ sym (ap (list_any (eq_by_cmp place_cmp p)) keys_on ∙ list_any-append (eq_by_cmp place_cmp p) (keys_of notes) (q ∷ []));
+        same = λ p. more p ∙ ap (λ b. cond (equal_places q p) true b) (now.same p) ∙ one_more p ∙ sym (ap (list_any (eq_by_cmp place_cmp p)) keys_on ∙ list_any-append (eq_by_cmp place_cmp p) (keys_of notes) (q ∷ []));
       }
         where
           keys_on : keys_of (notes ++ (q, i) ∷ []) ≡ keys_of notes ++ q ∷ []
           keys_on = map-append (λ (n : Place × ℕ). n.0) notes ((q, i) ∷ [])
 
-          one_more : (p : Place) → cond (place_eq q p) true (list_any (eq_by_cmp place_cmp p) (keys_of notes)) ≡ (list_any (eq_by_cmp place_cmp p) (keys_of notes) || (eq_by_cmp place_cmp p q || false))
-          one_more p = ap (λ b. cond b true (list_any (eq_by_cmp place_cmp p) (keys_of notes))) (alike place_eq place_cmp place_total place_exact place_eq_exact place_eq_self q p ∙ (eq_by_cmp_equiv place_total).symm q p)
+          one_more : (p : Place) → cond (equal_places q p) true (list_any (eq_by_cmp place_cmp p) (keys_of notes)) ≡ (list_any (eq_by_cmp place_cmp p) (keys_of notes) || (eq_by_cmp place_cmp p q || false))
+          one_more p = ap (λ b. cond b true (list_any (eq_by_cmp place_cmp p) (keys_of notes))) (alike equal_places place_cmp place_total place_exact places_exact places_self q p ∙ (eq_by_cmp_equiv place_total).symm q p)
               ∙ go (eq_by_cmp place_cmp p q) (list_any (eq_by_cmp place_cmp p) (keys_of notes))
             where
               go : (a b : Bool) → cond a true b ≡ (b || (a || false))

@@ -4,13 +4,15 @@ use Rattle.std.proofs.lemmas.Bool.{false≢true, or_right, cases_lt}
 use Rattle.std.proofs.lemmas.List.Elements.{filter-append}
 use Rattle.std.proofs.lemmas.Option.{none-some, same_Some}
 use Rattle.std.specs.Prelude.{◌==◌}
-use Rattle.std.specs.Ordering.{is_lt}
+use Rattle.std.specs.Ordering.{is_lt, ordering_reverse}
+use Rattle.std.specs.declared.cmp.Ordering.{Ordering}
+use Rattle.std.specs.declared.cmp.Ordering.TheVariants.{Less, Equal, Greater}
 use Rattle.std.specs.List.{filter, list_all}
 use Rattle.std.specs.FinMap.{FinMap, get, insert, empty, get-empty}
 use Rattle.calvin_types.specs.declared.place.Place.{Place}
 use Rattle.calvin_types.specs.Orders.{Order}
 use Rattle.calvin_types.specs.Participants.{Site}
-use Rattle.calvin_types.specs.Places.{place_cmp}
+use Rattle.calvin_types.specs.Places.{place_cmp, IsBefore}
 use Rattle.calvin_types.proofs.PlaceOrder.{place_total, place_exact, not_before_itself}
 use Rattle.calvin_types.proofs.ExactMaps.{same_or_not, insert_here, insert_other}
 use Rattle.calvin_app.specs.Stores.{Store}
@@ -18,6 +20,7 @@ use Rattle.calvin_order.specs.Merged.{end_of}
 use Rattle.calvin_sched.specs.Keeping.{Kept, turns_of, scheduling_of}
 use Rattle.calvin_sched.specs.Scheduling.{Turn, Scheduling, is_before, is_past, is_finished, is_done, turn_done}
 use Rattle.calvin_sched.specs.Progress.{left, done_at, from_left, passes_first, IsProgress}
+use Rattle.calvin_sched.specs.Seating.{IsPastAll}
 use Rattle.calvin_sched.proofs.DueLists.{left_of_from, left_of_left, left_same, first_of_from, climbs_from, climbs_more, places_of_epoch}
 use Rattle.calvin_sched.specs.Standing.{local_places}
 use Rattle.calvin_sched.proofs.Keepers.{less_of, put_turn, turn_kept}
@@ -178,6 +181,20 @@ module _ {Args Row : Type 0} (opened : ℕ) (last : Option Place) (turns : FinMa
     admits = steps q y (waits ∙ sym (nothing_past q past)) (Some q) not_itself (later_last q past)
 
 -- ---- the same by what is kept
+
+-- a place past the last one is past all that are admitted
+module _ {Args Row : Type 0} (opened : ℕ) (last : Option Place) (kept : FinMap {K = Place} place_cmp (Kept Args Row)) (merged done : ℕ) (due : List Place) (is : IsProgress opened last (turns_of kept) merged done due) where
+  pub past_admitted : (q : Place) → is_past last q ≡ true → IsPastAll q kept
+  past_admitted q past n k found = go last past (is.upto n k.turn (turn_kept kept n k found))
+    where
+      by_order : (a : Place) → IsBefore a q → (o : Ordering) → place_cmp a n ≡ o → is_lt o ≡ false → IsBefore n q
+      by_order a before Less e u = absurd (false≢true (sym u))
+      by_order a before Equal e u = subst (λ p. IsBefore p q) (place_exact a n e) before
+      by_order a before Greater e u = place_total.trans n a q (place_total.antisymm n a ∙ ap ordering_reverse e) before
+
+      go : (o : Option Place) → is_past o q ≡ true → is_past o n ≡ false → IsBefore n q
+      go None p u = absurd (false≢true (sym u))
+      go (Some a) p u = by_order a (less_of (place_cmp a q) p) (place_cmp a n) refl u
 
 module _ {Args Row : Type 0} (opened : ℕ) (last : Option Place) (kept : FinMap {K = Place} place_cmp (Kept Args Row)) (merged done : ℕ) (due : List Place) (is : IsProgress opened last (turns_of kept) merged done due)
     (q : Place) (next : Kept Args Row) (after : FinMap {K = Place} place_cmp (Kept Args Row)) (put : after ≡ insert kept q next) where

@@ -1,7 +1,6 @@
--- Admitted requests in a list in which the places rise: what stands at a place, and what is put there.
-use Rattle.std.proofs.Common.{◌≡◌, ℕ, zero, suc, ◌+◌, ◌-◌, ◌<◌, ◌≤◌, Bool, true, false, cond, inl, inr, List, [], ◌∷◌, ◌++◌, length, get_or, Some, None, slice_get, slice_set, refl, sym, ap, subst, ◌∙◌, arith}
-use Rattle.std.specs.Prelude.{T, Result, Ok, Err, MatchOption, MatchResult}
-use Rattle.std.specs.List.{insert}
+-- Admitted requests in a list in which the places rise: what stands at a place, and what is put at the end.
+use Rattle.std.proofs.Common.{◌≡◌, ℕ, zero, suc, ◌+◌, ◌<◌, ◌≤◌, Bool, true, false, cond, List, [], ◌∷◌, ◌++◌, length, get_or, Some, None, slice_get, slice_set, refl, sym, ap, subst, ◌∙◌, arith}
+use Rattle.std.specs.Prelude.{T, Result, Ok, Err, MatchOption}
 use Rattle.std.specs.List.Sorted.{IsNonDecreasingBy, IsBinarySearchResult, IsSearchInRange}
 use Rattle.std.specs.Result.{result_ok}
 use Rattle.std.specs.FinMap as map
@@ -10,16 +9,14 @@ use Rattle.std.specs.Cmp.{tied_itself}
 use Rattle.std.specs.Ordering.{is_lt, is_eq, ordering_index, ordering_reverse}
 use Rattle.std.specs.declared.cmp.Ordering.{Ordering}
 use Rattle.std.specs.declared.cmp.Ordering.TheVariants.{Less, Equal, Greater}
-use Rattle.std.proofs.Math.Nat.{eq-or-lt_of_le}
 use Rattle.std.proofs.lemmas.Bool.{false≢true}
-use Rattle.std.proofs.lemmas.List.{drop_all, take_all}
 use Rattle.std.proofs.lemmas.List.Sorted.{searchable_from_sorted}
 use Rattle.std.proofs.lemmas.Option.{none-some, same_Some, slice_get-get_or, slice_get_within, get_or_from_slice_get}
 use Rattle.calvin_types.specs.declared.place.Place.{Place}
 use Rattle.calvin_types.specs.Exact.{first, second}
 use Rattle.calvin_types.specs.Places.{place_cmp, IsBefore}
 use Rattle.calvin_types.proofs.PlaceOrder.{place_total, place_exact}
-use Rattle.calvin_sched.specs.Seating.{rising, seated, IsAt, IsMissingAt}
+use Rattle.calvin_sched.specs.Seating.{rising, seated, IsAt, IsPastAll}
 
 holds : (b : Bool) → T b → b ≡ true
 holds true h = refl
@@ -134,51 +131,25 @@ module _ {X : Type 0} where
       ap (λ o. cond (is_eq o) (Some e.1) (map.find place_cmp q es)) (turned e.0 q (front 0 e refl (omega arith)))
       ∙ find_missing es q i (λ k x at lower. front (suc k) x at (omega (arith, lower))) (λ k x at most. back (suc k) x at (omega (arith, most)))
 
-  put_missing : (es : List (Place × X)) (q : Place) (i : ℕ) (w : X) → i ≤ length es → ((k : ℕ) (e : Place × X) → slice_get es k ≡ Some e → k < i → IsBefore e.0 q) → ((k : ℕ) (e : Place × X) → slice_get es k ≡ Some e → i ≤ k → IsBefore q e.0) → map.put place_cmp q w es ≡ insert es i (q, w)
-  put_missing [] q zero w within front back = refl
-  put_missing [] q (suc i) w within front back = absurd (omega (arith, within))
-  put_missing (e ∷ es) q zero w within front back = ap (λ (o : Ordering). by_order o ((q, w) ∷ e ∷ es) ((e.0, w) ∷ es) (e ∷ map.put place_cmp q w es)) (back 0 e refl (omega arith))
-  put_missing (e ∷ es) q (suc i) w within front back =
-      ap (λ (o : Ordering). by_order o ((q, w) ∷ e ∷ es) ((e.0, w) ∷ es) (e ∷ map.put place_cmp q w es)) (turned e.0 q (front 0 e refl (omega arith)))
-      ∙ ap (λ xs. e ∷ xs) (put_missing es q i w (omega (arith, within)) (λ k x at lower. front (suc k) x at (omega (arith, lower))) (λ k x at most. back (suc k) x at (omega (arith, most))))
-
-  missing_at : (es : List (Place × X)) (q : Place) (i : ℕ) → i ≤ length es → ((k : ℕ) (e : Place × X) → slice_get es k ≡ Some e → k < i → IsBefore e.0 q) → ((k : ℕ) (e : Place × X) → slice_get es k ≡ Some e → i ≤ k → IsBefore q e.0) → IsMissingAt q es i
-  missing_at es q i within front back = record { within = within; missing = find_missing es q i front back; put_is = λ w. put_missing es q i w within front back }
-
-  -- what isn't met would stand between those before it and those past it
-  missing_between : (es : List (Place × X)) (q : Place) (i : ℕ) → i ≤ length es → ((k : ℕ) (d : Place × X) → 0 ≤ k → k < i → place_cmp (get_or es k d).0 q ≡ Less) → ((k : ℕ) (d : Place × X) → i ≤ k → k < length es → place_cmp (get_or es k d).0 q ≡ Greater) → IsMissingAt q es i
-  missing_between es q i within front back =
-      missing_at es q i within (λ k e at lower. subst (λ (x : Place × X). IsBefore x.0 q) (get_or_from_slice_get es k e e at) (front k e (omega arith) lower))
+  -- what isn't met is missing
+  missing_between : (es : List (Place × X)) (q : Place) (i : ℕ) → ((k : ℕ) (d : Place × X) → 0 ≤ k → k < i → place_cmp (get_or es k d).0 q ≡ Less) → ((k : ℕ) (d : Place × X) → i ≤ k → k < length es → place_cmp (get_or es k d).0 q ≡ Greater) → map.find place_cmp q es ≡ None
+  missing_between es q i front back =
+      find_missing es q i (λ k e at lower. subst (λ (x : Place × X). IsBefore x.0 q) (get_or_from_slice_get es k e e at) (front k e (omega arith) lower))
       (λ k e at most. subst (λ (x : Place × X). IsBefore q x.0) (get_or_from_slice_get es k e e at)
       (place_total.antisymm q (get_or es k e).0 ∙ ap ordering_reverse (back k e most (slice_get_within es k e at))))
 
-  pub searched : (es : List (Place × X)) (q : Place) (r : Result ℕ ℕ) → rising es → IsSearchInRange r (length es) → IsBinarySearchResult (λ (y : Place × X). place_cmp y.0 q) es r → MatchResult r (IsAt q es) (IsMissingAt q es)
+  pub searched : (es : List (Place × X)) (q : Place) (r : Result ℕ ℕ) → rising es → IsSearchInRange r (length es) → IsBinarySearchResult (λ (y : Place × X). place_cmp y.0 q) es r → MatchOption (result_ok r) (map.find place_cmp q es ≡ None) (IsAt q es)
   searched es q (Ok i) h within found = at_equal es q i within found
-  searched es q (Err i) h within found = let point = found (searchable es q h) in missing_between es q i within point.0 point.1
-
-  pub found_or_missing : (es : List (Place × X)) (q : Place) (r : Result ℕ ℕ) → MatchResult r (IsAt q es) (IsMissingAt q es) → MatchOption (result_ok r) (map.find place_cmp q es ≡ None) (IsAt q es)
-  found_or_missing es q (Ok i) at = at
-  found_or_missing es q (Err i) absent = absent.missing
+  searched es q (Err i) h within found = let point = found (searchable es q h) in missing_between es q i point.0 point.1
 
   -- ---- past all
 
-  pub past_last : (es : List (Place × X)) (e : Place × X) (q : Place) → rising es → slice_get es (length es - 1) ≡ Some e → IsBefore e.0 q → IsMissingAt q es (length es)
-  past_last es e q h at before =
-      let last = slice_get_within es (length es - 1) e at in
-      missing_at es q (length es) (omega arith) (λ k x there lower.
-      let upto : k ≤ length es - 1 = omega (arith, lower) in
-      elim (eq-or-lt_of_le upto) [
-        | inl same ↦ subst (λ (y : Place × X). IsBefore y.0 q) (same_Some e x (sym at ∙ ap (slice_get es) (sym same) ∙ there)) before
-        | inr lower ↦ place_total.trans x.0 e.0 q (rises_at es k (length es - 1) x e (holds _ h) there at lower) before
-      ]) (λ k x there most. absurd (omega (arith, most, slice_get_within es k x there)))
+  put_past : (es : List (Place × X)) (q : Place) (w : X) → ((k : ℕ) (e : Place × X) → slice_get es k ≡ Some e → IsBefore e.0 q) → es ++ (q, w) ∷ [] ≡ map.put place_cmp q w es
+  put_past [] q w past = refl
+  put_past (e ∷ es) q w past =
+      ap (λ xs. e ∷ xs) (put_past es q w (λ k x at. past (suc k) x at))
+      ∙ sym (ap (λ (o : Ordering). by_order o ((q, w) ∷ e ∷ es) ((e.0, w) ∷ es) (e ∷ map.put place_cmp q w es)) (turned e.0 q (past 0 e refl)))
 
-  pub past_none : (es : List (Place × X)) (q : Place) → slice_get es (length es - 1) ≡ None → IsMissingAt q es (length es)
-  past_none [] q none = record { within = omega arith; missing = refl; put_is = λ w. refl }
-  past_none (e ∷ es) q none = absurd (none-some _ (sym none ∙ slice_get-get_or (e ∷ es) (length (e ∷ es) - 1) e (omega arith)))
-
-  inserted : (es : List (Place × X)) (x : Place × X) → insert es (length es) x ≡ es ++ x ∷ []
-  inserted es x = λ j. take_all (length es) es (omega arith) j ++ x ∷ drop_all (length es) es (omega arith) j
-
-  -- and is put at the end
-  pub put_last : (es : List (Place × X)) (q : Place) (w : X) → IsMissingAt q es (length es) → es ++ (q, w) ∷ [] ≡ map.put place_cmp q w es
-  put_last es q w past = sym (past.put_is w ∙ inserted es (q, w))
+  -- what is put past all stands at the end
+  pub put_last : (es : List (Place × X)) (q : Place) (w : X) → rising es → IsPastAll q (seated es) → es ++ (q, w) ∷ [] ≡ map.put place_cmp q w es
+  put_last es q w h past = put_past es q w (λ k e at. past e.0 e.1 (got_at es k e.0 e.1 h at))

@@ -2,12 +2,12 @@
 --     rising seats      the places rise
 --     seated seats      the map that they show
 --     IsAt place seats i      the place stands there after i others
---     IsMissingAt place seats i      the place is missing, and would stand there after i others
-use Rattle.std.specs.Prelude.{◌≡◌, ℕ, ◌≤◌, List, length, T, None, Some, slice_get}
-use Rattle.std.specs.List.{insert}
+--     IsPastAll place kept      the place comes after all places of a map
+use Rattle.std.specs.Prelude.{◌≡◌, ℕ, List, T, Some, slice_get}
+use Rattle.std.specs.Option.{ForSome}
 use Rattle.std.specs.FinMap as map
 use Rattle.calvin_types.specs.declared.place.Place.{Place}
-use Rattle.calvin_types.specs.Places.{place_cmp}
+use Rattle.calvin_types.specs.Places.{place_cmp, IsBefore}
 
 module _ {X : Type 0} where
   abbrev pub rising : List (Place × X) → Type 0
@@ -19,7 +19,5 @@ module _ {X : Type 0} where
   abbrev pub IsAt : Place → List (Place × X) → ℕ → Type 0
   IsAt place seats i = (x : X) × (slice_get seats i ≡ Some (place, x))
 
-  pub record IsMissingAt (place : Place) (seats : List (Place × X)) (i : ℕ) : Type 0 where
-    pub within : i ≤ length seats
-    pub missing : map.find place_cmp place seats ≡ None
-    pub put_is : (x : X) → map.put place_cmp place x seats ≡ insert seats i (place, x)
+  abbrev pub IsPastAll : Place → map.FinMap place_cmp X → Type 0
+  IsPastAll place kept = (q : Place) → ForSome (map.get kept q) (λ x. IsBefore q place)

@@ -1,12 +1,12 @@
 //! The admitted requests by their places.
-ghost use Rattle.std.specs.Prelude.{◌≡◌, ◌↔◌, ◌-◌, ◌≤◌, ◌<◌, None, length, max, vec_len, vec_capacity, IfSome, IsTrue, OnOk, OnErr, IsOkUnless, MatchOption, MatchResult};
+ghost use Rattle.std.specs.Prelude.{◌≡◌, ◌↔◌, ◌-◌, ◌<◌, None, max, IfSome, IsTrue, OnOk, OnErr, IsOkUnless, MatchOption};
 ghost use Rattle.std.specs.Option.{ForSome, option_copied};
 ghost use Rattle.std.specs.FinMap as map;
 ghost use Rattle.calvin_types.specs.Participants.{site};
 ghost use Rattle.calvin_types.specs.Places.{place_cmp};
 ghost use Rattle.calvin_sched.specs.Keeping.{turns_of};
 ghost use Rattle.calvin_sched.specs.Scheduling.{turn_done};
-ghost use Rattle.calvin_sched.specs.Seating.{rising, IsAt, IsMissingAt};
+ghost use Rattle.calvin_sched.specs.Seating.{rising, IsAt, IsPastAll};
 ghost use Rattle.calvin_sched.specs.Steps.{begun_turn, with_rows};
 ghost use Rattle.calvin_sched.specs.declared.phase.Phase.TheVariants.{Done};
 
@@ -18,7 +18,7 @@ use std::alloc::Global;
 use std::marker::Model;
 
 /// At most one admitted request at each place. Room for one more can be reserved. They stand in the order of their places, in
-/// which most are put, begin, are run and are finished; where partitions are few, rows come in it too. So one is looked for first
+/// which they are put, and most begin, are run and are finished; where partitions are few, rows come in it too. So one is looked for first
 /// where one was looked for last, then where rows came last, and behind each of these. Any other is found in logarithmic time.
 #[derive(Drop)]
 pub struct Turns<A: App> {
@@ -68,12 +68,12 @@ fn number_near<A: App>(turns: &[(Place, Turn<A>)], place: Place, near: usize) ->
     None
 }
 
-/// How many requests stand before the one at a place, or would stand before one that is put there.
-fn search<A: App>(turns: &[(Place, Turn<A>)], place: Place) -> Result<usize, usize>
+/// How many requests stand before the one at a place, if that is there, by a binary search.
+fn search<A: App>(turns: &[(Place, Turn<A>)], place: Place) -> Option<usize>
     requires { rising turns.now }
-    ensures { MatchResult result (IsAt place turns.now) (IsMissingAt place turns.now) }
+    ensures { MatchOption result (map.find place_cmp place turns.now ≡ None) (IsAt place turns.now) }
 {
-    turns.binary_search_by_key(&place, |(other, _)| *other)
+    turns.binary_search_by_key(&place, |(other, _)| *other).ok()
 }
 
 /// How many requests stand before the one at a place, if that is there. It is looked for first with `near` before it or one
@@ -93,48 +93,7 @@ fn number_of<A: App>(
     if let Some(number) = number_near(turns, place, other) {
         return Some(number);
     }
-    search(turns, place).ok()
-}
-
-/// Whether a place is past those of all requests.
-fn is_past_all<A: App>(turns: &[(Place, Turn<A>)], place: Place) -> bool
-    requires { rising turns.now }
-    ensures { IsTrue result → IsMissingAt place turns.now (length turns.now) }
-{
-    match turns.last() {
-        Some((last, _)) => *last < place,
-        None => true,
-    }
-}
-
-/// Puts a request at a place, in place of the one that is there, or else between those before it and those past it. There is
-/// room for it. It stands apart from `put`, since it is rarely needed.
-#[inline(never)]
-fn put_among<A: App>(turns: &mut Vec<(Place, Turn<A>)>, place: Place, turn: Turn<A>)
-    requires rises { rising turns.old.items }
-    requires room { vec_len turns.old < vec_capacity turns.old }
-    ensures items { turns.new.items ≡ map.put place_cmp place turn turns.old.items }
-    ensures room { vec_capacity turns.old - vec_len turns.old - 1 ≤ vec_capacity turns.new - vec_len turns.new }
-{
-    match search(turns, place) {
-        Ok(number) => turns[number] = (place, turn),
-        Err(number) => turns.insert(number, (place, turn)).unwrap(),
-    }
-}
-
-/// Puts a request at a place, in place of the one that is there. There is room for it. Requests that are put in the order of
-/// their places are each found at once to be past the others.
-fn put<A: App>(turns: &mut Vec<(Place, Turn<A>)>, place: Place, turn: Turn<A>)
-    requires rises { rising turns.old.items }
-    requires room { vec_len turns.old < vec_capacity turns.old }
-    ensures items { turns.new.items ≡ map.put place_cmp place turn turns.old.items }
-    ensures room { vec_capacity turns.old - vec_len turns.old - 1 ≤ vec_capacity turns.new - vec_len turns.new }
-{
-    if is_past_all(turns, place) {
-        turns.push_reserved((place, turn));
-    } else {
-        put_among(turns, place, turn);
-    }
+    search(turns, place)
 }
 
 impl<A: App> Turns<A> {
@@ -199,12 +158,13 @@ impl<A: App> Turns<A> {
         Ok(())
     }
 
-    /// Puts a request at a place, in place of the one that is there. There is room for it.
+    /// Puts a request at a place past those of all others. There is room for it.
     pub fn insert(&mut self, place: Place, turn: Turn<A>)
-        requires { 0 < self.old.room }
+        requires past { IsPastAll place self.old.kept }
+        requires room { 0 < self.old.room }
         ensures { self.new ≡ record { kept = map.insert self.old.kept place turn; room = self.old.room - 1 } }
     {
-        put(&mut self.turns, place, turn);
+        self.turns.push_reserved((place, turn));
         self.room -= 1;
     }
 

@@ -12,7 +12,8 @@ use Rattle.calvin_sched.specs.Keeping.{scheduling_of, turns_of, awaited}
 use Rattle.calvin_sched.specs.Scheduling.{is_past, is_finished, with_turn, new_turn}
 use Rattle.calvin_order.specs.Merged.{end_of}
 use Rattle.calvin_sched.proofs.Keepers.{put_turn}
-use Rattle.calvin_sched.proofs.Progresses.{progress_admitted, left_admitted}
+use Rattle.calvin_sched.specs.Seating.{IsPastAll}
+use Rattle.calvin_sched.proofs.Progresses.{past_admitted, progress_admitted, left_admitted}
 use Rattle.calvin_sched.proofs.Admitting.{admitted_keeps}
 use Rattle.calvin_sched.proofs.scheduler.Scheduler.admit_shared.Goals as goal
 
@@ -45,6 +46,13 @@ returns-in_err-reserve-clause-did g c =
     subst (λ d. Did (has_local_key c.args.self.now.here c.args.txn) c.from_residual-in_err-reserve.result d c.args.self.now.scheduling (scheduling_of c.self.inside.opened c.self.inside.last c.reserve.new.self.kept (g.S.Rows.store c.self.inside.rows))) (sym does)
     (subst (λ r. Did (has_local_key c.args.self.now.here c.args.txn) r (Does (admitted c.args.self.now.here c.args.self.now.scheduling c.args.place c.args.txn) tt) c.args.self.now.scheduling (scheduling_of c.self.inside.opened c.self.inside.last c.reserve.new.self.kept (g.S.Rows.store c.self.inside.rows))) (sym p.1)
     ((and_parts _ _ c.requires).1, p.2 ∙ c.in_err-reserve.ensures.only, same))
+
+pub insert-requires-clause-past : goal.insert-requires-clause-past
+insert-requires-clause-past g c =
+    let kept = c.self.inside.turns.kept in
+    subst (IsPastAll c.args.place) (sym (ap (λ t. t.kept) c.in_ok-reserve.ensures.ok))
+    (past_admitted c.self.inside.opened c.self.inside.last kept c.self.inside.progress.merged c.self.inside.progress.done c.self.inside.progress.due.items c.self.invariant.1 c.args.place
+    (ap (λ v. is_past v.scheduling.last c.args.place) c.self.view_is ∙ (and_parts _ _ (and_parts _ _ c.requires).0).0))
 
 pub invariant_of-self-2 : goal.invariant_of-self-2
 invariant_of-self-2 g c =
