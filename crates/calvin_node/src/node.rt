@@ -78,6 +78,13 @@ impl<A: App, L: Locks + Drop, S: Rows<A::Row> + Drop> Node<A, L, S> {
         self.layer.next_epoch()
     }
 
+    /// The epoch that is merged next, if one is left below 2^64.
+    pub fn next_to_merge(&self) -> Option<u64>
+        ensures { MatchOption result (self.now.state.merged_epochs ≡ 2 ^ 64) (λ epoch. epoch ≡ self.now.state.merged_epochs) }
+    {
+        self.layer.next_to_merge()
+    }
+
     /// How many requests are queued.
     pub fn queued(&self) -> usize
         ensures { result ≡ length self.now.state.sequencer.queue }

@@ -24,7 +24,7 @@ pub(crate) fn key(id: u64) -> Key {
     Key { table: 0, id }
 }
 
-fn at(replica: u8, partition: u8, act: Act<KvRequest>) -> KvEvent {
+pub(crate) fn at(replica: u8, partition: u8, act: Act<KvRequest>) -> KvEvent {
     Event::At(NodeId { replica, partition }, act)
 }
 
@@ -107,14 +107,20 @@ fn execution(replica: u8, first: usize) -> [KvEvent; 14] {
     ]
 }
 
-/// Adds the whole list.
-fn push_all(events: &mut Vec<KvEvent>) -> Result<(), Fault> {
+/// Adds the submissions, and what it takes to agree on both batches. Says how many packets are sent by then.
+pub(crate) fn push_agreed(events: &mut Vec<KvEvent>) -> Result<usize, Fault> {
     events.extend_from_slice(&submissions())?;
     let mut first = 0;
     for group in 0..PARTITIONS {
         events.extend_from_slice(&agreement(group, first))?;
         first = first.saturating_add(OF_AGREEMENT);
     }
+    Ok(first)
+}
+
+/// Adds the whole list.
+fn push_all(events: &mut Vec<KvEvent>) -> Result<(), Fault> {
+    let mut first = push_agreed(events)?;
     for replica in 0..REPLICAS {
         events.extend_from_slice(&execution(replica, first))?;
         first = first.saturating_add(OF_EXECUTION);

@@ -31,7 +31,11 @@ fn play(rt: &impl Abort, world: &mut KvWorld, events: &[KvEvent], restart: Resta
 }
 
 /// Packets are delivered and nodes work until nothing moves, as at the end of a simulation.
-fn bring_to_end(rt: &impl Abort, alloc: Global, world: &mut KvWorld) -> Result<(), Fault> {
+pub(crate) fn bring_to_end(
+    rt: &impl Abort,
+    alloc: Global,
+    world: &mut KvWorld,
+) -> Result<(), Fault> {
     let config = Config::new(PARTITIONS, REPLICAS)?;
     let Some(schedule) = Schedule::new(1, 0, REPLICAS, Restarts::Never) else {
         panic!(rt; "no schedule");

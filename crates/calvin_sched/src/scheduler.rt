@@ -269,6 +269,13 @@ impl<A: App, L: Locks + Drop, S: Rows<A::Row> + Drop> Scheduler<A, L, S> {
         self.turns.seek(place);
     }
 
+    /// Has the request at a place, if there is one, found at once where rows come for it.
+    fn seek_came(&mut self, place: Place)
+        ensures { self.new ≡ self.old }
+    {
+        self.turns.seek_came(place);
+    }
+
     /// The same as `begin_in_place`, wherever the request is looked for first.
     fn begin_found(&mut self, place: Place) -> Result<(), Fault>
         ensures did { Did false result (steps.silently (steps.begin self.old.here place self.old.scheduling)) self.old.scheduling self.new.scheduling }
@@ -292,6 +299,7 @@ impl<A: App, L: Locks + Drop, S: Rows<A::Row> + Drop> Scheduler<A, L, S> {
         ensures did { Did false result (steps.on_reads self.old.here place from rows.now self.old.scheduling) self.old.scheduling self.new.scheduling }
         ensures rest { self.new ≡ record self.old { scheduling = self.new.scheduling } }
     {
+        self.seek_came(place);
         if !self.awaits(place, from) {
             return Err(Fault::NotAwaited);
         }

@@ -134,6 +134,15 @@ impl<A: App> Turns<A> {
         }
     }
 
+    /// Has the request at a place, if there is one, found at once where rows come for it.
+    pub fn seek_came(&mut self, place: Place)
+        ensures { self.new ≡ self.old }
+    {
+        if let Some(number) = number_of(&self.turns, place, self.near_came, self.near) {
+            self.near_came = number;
+        }
+    }
+
     /// Whether the request at a place is done; false where none is there. It is looked for first with `near` before it or one
     /// more.
     pub fn is_done(&self, place: Place, near: usize) -> bool

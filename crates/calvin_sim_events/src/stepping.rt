@@ -145,7 +145,7 @@ pub(crate) fn is_of_lost<A: App + Drop>(
 
 /// The node that the packet of a number is for: none, where it is for a client, or its replica is the one whose packets are lost, or
 /// no packet has the number.
-fn addressee<A: App + Drop>(
+pub(crate) fn addressee<A: App + Drop>(
     world: &StoreWorld<A>,
     number: usize,
     lost: Option<u8>,

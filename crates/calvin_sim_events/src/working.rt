@@ -1,4 +1,5 @@
-//! What brings the nodes on: packets are delivered as they are sent, and each node that one reached works on.
+//! What brings the nodes on: packets are delivered as they are sent, and each node that one reached works on. Rows that come too early
+//! are delivered again.
 ghost use Rattle.std.specs.Prelude.{◌≡◌, true, OnOk, OnErr, IsOkUnless};
 ghost use Rattle.calvin_sim_events.specs.declared.schedule.Restarts.TheVariants.{Never};
 ghost use Rattle.calvin_report.specs.Reports.{is_lost};
@@ -6,21 +7,24 @@ ghost use Rattle.calvin_sim_events.specs.Passes.{IsRedelivery, Repeats};
 ghost use Rattle.calvin_sim_events.specs.Quiet.{everyone, LeadsQuietly, LeadsToWant};
 
 use crate::schedule::Schedule;
-use crate::stepping::{begin_at, deliver, finish_at, happen_at, lock_at, sent};
+use crate::stepping::{addressee, begin_at, deliver, finish_at, happen_at, lock_at, sent};
 use calvin_app::App;
 use calvin_node::Act;
+use calvin_node_packets::Sent;
 use calvin_types::{Config, Fault, NodeId, Place};
 use calvin_world::{Outcome, StoreWorld};
 use std::alloc::Global;
 
-/// A node, whether something reached it since it last worked, and the greatest place whose request was run there, if one was. That
-/// place only decides which of two events is asked for first: at a greater place the request begins, and is then finished; up to it,
-/// it is finished, and begins only where it is refused that since it hasn't begun.
-#[derive(Clone, Copy)]
+/// A node, whether something reached it since it last worked, or it merged an epoch then, the greatest place whose request was run
+/// there, if one was, and the numbers of the packets that came too early: they have rows for requests of epochs that the node hasn't
+/// merged. That place only decides which of two events is asked for first: at a greater place the request begins, and is then
+/// finished; up to it, it is finished, and begins only where it is refused that since it hasn't begun.
+#[derive(Drop)]
 pub(crate) struct Seat {
     pub id: NodeId,
     is_woken: bool,
     last_run: Option<Place>,
+    early: Vec<usize>,
 }
 
 impl Seat {
@@ -39,6 +43,7 @@ pub(crate) struct Crew {
     pub config: Config,
     pub seats: Vec<Seat>,
     delivered: usize,
+    alloc: Global,
 }
 
 impl Crew {
@@ -53,26 +58,74 @@ impl Crew {
                 id: id_at(config, i),
                 is_woken: true,
                 last_run: None,
+                early: Vec::new(alloc),
             })?;
         }
         Ok(Crew {
             config: *config,
             seats,
             delivered: 0,
+            alloc,
         })
+    }
+
+    /// The seat of a node.
+    fn seat(&mut self, id: NodeId) -> Option<&mut Seat> {
+        let before = id.replica as usize * self.config.partitions as usize;
+        self.seats.get_mut(before + id.partition as usize)
     }
 
     /// A node is to work.
     fn wake(&mut self, id: NodeId) {
-        let before = id.replica as usize * self.config.partitions as usize;
-        if let Some(seat) = self.seats.get_mut(before + id.partition as usize) {
+        if let Some(seat) = self.seat(id) {
             seat.is_woken = true;
         }
     }
 
-    /// Delivers a packet to the node that it is for, unless it is lost; the node is to work if the packet took effect. Answers to
-    /// clients stay.
+    /// Keeps the number of a packet that did nothing, if it came too early. Where there is no memory for that, its rows are asked for
+    /// once nothing else is left to do.
+    fn keep_early<A: App + Drop>(
+        &mut self,
+        world: &StoreWorld<A>,
+        number: usize,
+        lost: Option<u8>,
+    ) {
+        let Some(id) = addressee(world, number, lost) else {
+            return;
+        };
+        let Some(Sent::Reads(place, _)) = world.packets().sent(number) else {
+            return;
+        };
+        if has_merged(world, id, place.epoch) {
+            return;
+        }
+        if let Some(seat) = self.seat(id) {
+            let _kept = seat.early.push(number);
+        }
+    }
+
+    /// Delivers a packet to the node that it is for, unless it is lost; the node is to work if the packet took effect, and whether
+    /// it did is said. Answers to clients stay.
     fn deliver<A: App + Drop>(
+        &mut self,
+        world: &mut StoreWorld<A>,
+        number: usize,
+        lost: Option<u8>,
+    ) -> Result<bool, Fault>
+        ensures quiet { OnOk result (LeadsQuietly A.meaning Never (is_lost lost) world.old world.new) }
+        ensures want { OnErr result (LeadsToWant A.meaning Never (is_lost lost) world.old world.new) }
+        ensures delivered { OnOk result (IsRedelivery A.meaning (is_lost lost) number world.old world.new) }
+        ensures only { IsOkUnless result Fault.OutOfMemory }
+    {
+        let reached = deliver(world, number, lost)?;
+        if let Some(id) = reached {
+            self.wake(id);
+        }
+        Ok(reached.is_some())
+    }
+
+    /// Delivers a packet, and keeps its number where it came too early.
+    fn deliver_or_keep<A: App + Drop>(
         &mut self,
         world: &mut StoreWorld<A>,
         number: usize,
@@ -80,11 +133,56 @@ impl Crew {
     ) -> Result<(), Fault>
         ensures quiet { OnOk result (LeadsQuietly A.meaning Never (is_lost lost) world.old world.new) }
         ensures want { OnErr result (LeadsToWant A.meaning Never (is_lost lost) world.old world.new) }
-        ensures delivered { OnOk result (IsRedelivery A.meaning (is_lost lost) number world.old world.new) }
         ensures only { IsOkUnless result Fault.OutOfMemory }
     {
-        if let Some(id) = deliver(world, number, lost)? {
-            self.wake(id);
+        if !self.deliver(world, number, lost)? {
+            self.keep_early(world, number, lost);
+        }
+        Ok(())
+    }
+
+    /// The numbers of the packets that came too early to the node of a seat, if it is to work. None are kept for it any more.
+    fn take_early(&mut self, at: usize) -> Vec<usize> {
+        match self.seats.get_mut(at) {
+            Some(seat) if seat.is_woken => {
+                std::mem::replace(&mut seat.early, Vec::new(self.alloc))
+            }
+            _ => Vec::new(self.alloc),
+        }
+    }
+
+    /// Delivers the packets again that came too early to the node of a seat, if it is to work.
+    #[tactic(auto, using(crate::proofs::Leading::quiet_here, crate::proofs::Leading::quiet_then, crate::proofs::Leading::want_then))]
+    fn deliver_early_at<A: App + Drop>(
+        &mut self,
+        world: &mut StoreWorld<A>,
+        at: usize,
+        lost: Option<u8>,
+    ) -> Result<(), Fault>
+        ensures quiet { OnOk result (LeadsQuietly A.meaning Never (is_lost lost) world.old world.new) }
+        ensures want { OnErr result (LeadsToWant A.meaning Never (is_lost lost) world.old world.new) }
+        ensures only { IsOkUnless result Fault.OutOfMemory }
+    {
+        let early = self.take_early(at);
+        for i in 0..early.len() {
+            self.deliver_or_keep(world, early[i], lost)?;
+        }
+        Ok(())
+    }
+
+    /// Delivers the packets again that came too early to the nodes that have merged an epoch since.
+    #[tactic(auto, using(crate::proofs::Leading::quiet_here, crate::proofs::Leading::quiet_then, crate::proofs::Leading::want_then))]
+    fn deliver_early<A: App + Drop>(
+        &mut self,
+        world: &mut StoreWorld<A>,
+        lost: Option<u8>,
+    ) -> Result<(), Fault>
+        ensures quiet { OnOk result (LeadsQuietly A.meaning Never (is_lost lost) world.old world.new) }
+        ensures want { OnErr result (LeadsToWant A.meaning Never (is_lost lost) world.old world.new) }
+        ensures only { IsOkUnless result Fault.OutOfMemory }
+    {
+        for at in 0..self.seats.len() {
+            self.deliver_early_at(world, at, lost)?;
         }
         Ok(())
     }
@@ -102,7 +200,7 @@ impl Crew {
     {
         let end = sent(world);
         for number in self.delivered..end {
-            self.deliver(world, number, lost)?;
+            self.deliver_or_keep(world, number, lost)?;
         }
         self.delivered = end;
         Ok(())
@@ -115,15 +213,20 @@ impl Crew {
         ensures want { OnErr result (LeadsToWant A.meaning Never everyone world.old world.new) }
         ensures only { IsOkUnless result Fault.OutOfMemory }
     {
+        let partitions = self.config.partitions;
+        let mut front = 0;
         for seat in &mut self.seats {
+            if seat.id.partition == 0 {
+                front = front_of(world, seat.id.replica, partitions);
+            }
             if seat.is_woken {
-                seat.is_woken = work_at(world, seat)?;
+                seat.is_woken = work_at(world, seat, front)?;
             }
         }
         Ok(())
     }
 
-    /// Packets are delivered, and then the nodes work that they reached.
+    /// The nodes work that are to; then packets that came too early are delivered again, and those that were sent.
     #[tactic(auto, using(crate::proofs::Leading::quiet_here, crate::proofs::Leading::quiet_then, crate::proofs::Leading::want_then, crate::proofs::Leading::quiet_then_ok, crate::proofs::Leading::want_then_err))]
     fn turn<A: App + Drop>(
         &mut self,
@@ -134,8 +237,9 @@ impl Crew {
         ensures want { OnErr result (LeadsToWant A.meaning Never (is_lost lost) world.old world.new) }
         ensures only { IsOkUnless result Fault.OutOfMemory }
     {
-        self.deliver_sent(world, lost)?;
-        self.work(world)
+        self.work(world)?;
+        self.deliver_early(world, lost)?;
+        self.deliver_sent(world, lost)
     }
 
     /// Whether nothing is left to do: no packet that wasn't delivered here, and no node that is to work.
@@ -186,7 +290,7 @@ impl Crew {
             return Ok(());
         }
         for done in 0..packets {
-            self.deliver(world, packets - done - 1, schedule.lost)?;
+            let _reached = self.deliver(world, packets - done - 1, schedule.lost)?;
         }
         Ok(())
     }
@@ -201,28 +305,81 @@ fn id_at(config: &Config, at: usize) -> NodeId {
     }
 }
 
-/// A node merges the next epoch, if it is decided, and lets all that is merged ask for its locks. Says whether an epoch was
-/// merged.
-#[tactic(auto, using(crate::proofs::Leading::quiet_here, crate::proofs::Leading::quiet_then, crate::proofs::Leading::want_then))]
-fn admit<A: App + Drop>(world: &mut StoreWorld<A>, id: NodeId) -> Result<bool, Fault>
-    ensures quiet { OnOk result (LeadsQuietly A.meaning Never everyone world.old world.new) }
-    ensures want { OnErr result (LeadsToWant A.meaning Never everyone world.old world.new) }
-    ensures only { IsOkUnless result Fault.OutOfMemory }
-{
-    let merged = happen_at(world, id, Act::Merge)?;
-    lock_all(world, id)?;
-    Ok(merged == Outcome::Done)
+/// The epoch that a node merges next.
+fn next_to_merge<A: App + Drop>(world: &StoreWorld<A>, id: NodeId) -> Option<u64> {
+    world.node(id)?.next_to_merge()
 }
 
-/// A node merges and admits what it can of the next epoch; then what is ready runs. Says whether an epoch was merged: there may
-/// be another one.
+/// Whether a node has merged an epoch, if it is there.
+fn has_merged<A: App + Drop>(world: &StoreWorld<A>, id: NodeId, epoch: u64) -> bool {
+    match next_to_merge(world, id) {
+        Some(next) => epoch < next,
+        None => true,
+    }
+}
+
+/// The greatest of the epochs that the nodes of a replica merge next.
+fn front_of<A: App + Drop>(world: &StoreWorld<A>, replica: u8, partitions: u8) -> u64 {
+    let mut front = 0;
+    for partition in 0..partitions {
+        let id = NodeId { replica, partition };
+        if let Some(epoch) = next_to_merge(world, id) {
+            front = front.max(epoch);
+        }
+    }
+    front
+}
+
+/// A node merges the epochs up to `front`, as far as they are decided. Says whether it merged one.
 #[tactic(auto, using(crate::proofs::Leading::quiet_here, crate::proofs::Leading::quiet_then, crate::proofs::Leading::want_then))]
-fn work_at<A: App + Drop>(world: &mut StoreWorld<A>, seat: &mut Seat) -> Result<bool, Fault>
+fn merge_up_to<A: App + Drop>(
+    world: &mut StoreWorld<A>,
+    id: NodeId,
+    front: u64,
+) -> Result<bool, Fault>
     ensures quiet { OnOk result (LeadsQuietly A.meaning Never everyone world.old world.new) }
     ensures want { OnErr result (LeadsToWant A.meaning Never everyone world.old world.new) }
     ensures only { IsOkUnless result Fault.OutOfMemory }
 {
-    let merged = admit(world, seat.id)?;
+    let mut merged = false;
+    for _ in 0..u64::MAX {
+        if has_merged(world, id, front) {
+            break;
+        }
+        let Outcome::Done = happen_at(world, id, Act::Merge)? else {
+            break;
+        };
+        merged = true;
+    }
+    Ok(merged)
+}
+
+/// A node merges the epochs up to `front`, as far as they are decided, and lets all that is merged ask for its locks. Says whether an
+/// epoch was merged.
+#[tactic(auto, using(crate::proofs::Leading::quiet_here, crate::proofs::Leading::quiet_then, crate::proofs::Leading::want_then))]
+fn admit<A: App + Drop>(world: &mut StoreWorld<A>, id: NodeId, front: u64) -> Result<bool, Fault>
+    ensures quiet { OnOk result (LeadsQuietly A.meaning Never everyone world.old world.new) }
+    ensures want { OnErr result (LeadsToWant A.meaning Never everyone world.old world.new) }
+    ensures only { IsOkUnless result Fault.OutOfMemory }
+{
+    let merged = merge_up_to(world, id, front)?;
+    lock_all(world, id)?;
+    Ok(merged)
+}
+
+/// A node merges and admits what it can of the epochs up to `front`; then what is ready runs. Says whether an epoch was merged: there
+/// may be another one.
+#[tactic(auto, using(crate::proofs::Leading::quiet_here, crate::proofs::Leading::quiet_then, crate::proofs::Leading::want_then))]
+fn work_at<A: App + Drop>(
+    world: &mut StoreWorld<A>,
+    seat: &mut Seat,
+    front: u64,
+) -> Result<bool, Fault>
+    ensures quiet { OnOk result (LeadsQuietly A.meaning Never everyone world.old world.new) }
+    ensures want { OnErr result (LeadsToWant A.meaning Never everyone world.old world.new) }
+    ensures only { IsOkUnless result Fault.OutOfMemory }
+{
+    let merged = admit(world, seat.id, front)?;
     run_ready(world, seat)?;
     Ok(merged)
 }
