@@ -2,7 +2,7 @@
 use crate::checks::filled;
 use calvin_app::{Kv, KvRequest};
 use calvin_node::Act;
-use calvin_types::{Fault, Key, KeySet, NodeId, Place, RequestId, Sets, Txn};
+use calvin_types::{Fault, Key, KeySet, NodeId, Place, RequestId, Sets, Slot, Txn};
 use calvin_world::{Event, StoreWorld};
 use std::alloc::Global;
 
@@ -15,7 +15,7 @@ pub(crate) const PARTITIONS: u8 = 2;
 pub(crate) const REPLICAS: u8 = 3;
 
 /// How many packets it takes to agree on the batch of a group, and how many to run both requests at a replica.
-const OF_AGREEMENT: usize = 17;
+pub(crate) const OF_AGREEMENT: usize = 17;
 
 const OF_EXECUTION: usize = 5;
 
@@ -29,12 +29,12 @@ pub(crate) fn at(replica: u8, partition: u8, act: Act<KvRequest>) -> KvEvent {
 }
 
 /// The packet so many after the first one is delivered.
-fn delivery(first: usize, after: usize) -> KvEvent {
+pub(crate) fn delivery(first: usize, after: usize) -> KvEvent {
     Event::Deliver(first.saturating_add(after))
 }
 
 /// Client 7's request of a number is submitted at the first group's node of replica 0.
-fn submission(number: u32, args: KvRequest) -> KvEvent {
+pub(crate) fn submission(number: u32, args: KvRequest) -> KvEvent {
     let mut sets = Sets {
         reads: KeySet::new(),
         writes: KeySet::new(),
@@ -61,12 +61,12 @@ fn submissions() -> [KvEvent; 4] {
     ]
 }
 
-/// The batch of a group is agreed on: of the packets from a number on the first three are prepares, of which the third is lost.
+/// The batch of a slot is agreed on: of the packets from a number on the first three are prepares, of which the third is lost.
 /// Two promises follow, three questions for votes, of which the third is lost too, and each of the two votes goes to three
 /// nodes. Each of these tells the batch to its neighbour.
-fn agreement(group: u8, first: usize) -> [KvEvent; 16] {
+pub(crate) fn agreement(slot: Slot, first: usize) -> [KvEvent; 16] {
     [
-        at(0, group, Act::Propose(0)),
+        at(0, slot.group, Act::Propose(slot.epoch)),
         delivery(first, 0),
         delivery(first, 1),
         delivery(first, 3),
@@ -112,7 +112,7 @@ pub(crate) fn push_agreed(events: &mut Vec<KvEvent>) -> Result<usize, Fault> {
     events.extend_from_slice(&submissions())?;
     let mut first = 0;
     for group in 0..PARTITIONS {
-        events.extend_from_slice(&agreement(group, first))?;
+        events.extend_from_slice(&agreement(Slot { epoch: 0, group }, first))?;
         first = first.saturating_add(OF_AGREEMENT);
     }
     Ok(first)

@@ -30,17 +30,18 @@ fn play(rt: &impl Abort, world: &mut KvWorld, events: &[KvEvent], restart: Resta
     }
 }
 
-/// Packets are delivered and nodes work until nothing moves, as at the end of a simulation.
+/// Packets are delivered and nodes work until nothing moves, as at the end of a simulation of so many epochs.
 pub(crate) fn bring_to_end(
     rt: &impl Abort,
     alloc: Global,
     world: &mut KvWorld,
+    epochs: u64,
 ) -> Result<(), Fault> {
     let config = Config::new(PARTITIONS, REPLICAS)?;
     let Some(schedule) = Schedule::new(1, 0, REPLICAS, Restarts::Never) else {
         panic!(rt; "no schedule");
     };
-    bring_on(alloc, world, &config, 1, &schedule)
+    bring_on(alloc, world, &config, epochs, &schedule)
 }
 
 /// A run with a restart in a new world: where the node isn't of replica 0 the end is that of the list alone.
@@ -53,7 +54,7 @@ fn run_with(
     ends: &mut Ends,
 ) -> Result<(), Fault> {
     play(rt, world, events, restart);
-    bring_to_end(rt, alloc, world)?;
+    bring_to_end(rt, alloc, world, 1)?;
     check_safe(rt, world);
     if restart.id.replica == 0 {
         count(ends, world);

@@ -35,8 +35,18 @@ fn told(alloc: Global, world: &KvWorld) -> Result<Vec<u8>, Fault> {
 
 /// Both requests are told to be done, and the rows are what they leave.
 pub(crate) fn check_moved(rt: &impl Abort, alloc: Global, world: &KvWorld) -> Result<(), Fault> {
+    check_end(rt, alloc, world, MOVED)
+}
+
+/// This is told, and the rows are what both requests leave.
+pub(crate) fn check_end(
+    rt: &impl Abort,
+    alloc: Global,
+    world: &KvWorld,
+    wanted: &str,
+) -> Result<(), Fault> {
     let text = told(alloc, world)?;
-    same(rt, text.as_slice(), MOVED.as_bytes());
+    same(rt, text.as_slice(), wanted.as_bytes());
     drop(text);
     for replica in 0..REPLICAS {
         same(rt, world.peek(replica, &key(1)), Some(6));

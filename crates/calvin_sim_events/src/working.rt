@@ -17,7 +17,7 @@ use std::alloc::Global;
 
 /// A node, whether something reached it since it last worked, or it merged an epoch then, the greatest place whose request was run
 /// there, if one was, and the numbers of the packets that came too early: they have rows for requests of epochs that the node hasn't
-/// merged. That place only decides which of two events is asked for first: at a greater place the request begins, and is then
+/// merged. The greatest place only decides which of two events is asked for first: at a greater one the request begins, and is then
 /// finished; up to it, it is finished, and begins only where it is refused that since it hasn't begun.
 #[derive(Drop)]
 pub(crate) struct Seat {
@@ -206,7 +206,8 @@ impl Crew {
         Ok(())
     }
 
-    /// Each node that is to work does, replica by replica; one that merged an epoch is to work again.
+    /// Each node that is to work does, replica by replica; one that merged an epoch is to work again. The first seat of a replica is
+    /// that of partition 0.
     #[tactic(auto, using(crate::proofs::Leading::quiet_here, crate::proofs::Leading::quiet_then, crate::proofs::Leading::want_then))]
     fn work<A: App + Drop>(&mut self, world: &mut StoreWorld<A>) -> Result<(), Fault>
         ensures quiet { OnOk result (LeadsQuietly A.meaning Never everyone world.old world.new) }
@@ -214,13 +215,13 @@ impl Crew {
         ensures only { IsOkUnless result Fault.OutOfMemory }
     {
         let partitions = self.config.partitions;
-        let mut front = 0;
+        let mut greatest = 0;
         for seat in &mut self.seats {
             if seat.id.partition == 0 {
-                front = front_of(world, seat.id.replica, partitions);
+                greatest = greatest_to_merge(world, seat.id.replica, partitions);
             }
             if seat.is_woken {
-                seat.is_woken = work_at(world, seat, front)?;
+                seat.is_woken = work_at(world, seat, greatest)?;
             }
         }
         Ok(())
@@ -310,7 +311,7 @@ fn next_to_merge<A: App + Drop>(world: &StoreWorld<A>, id: NodeId) -> Option<u64
     world.node(id)?.next_to_merge()
 }
 
-/// Whether a node has merged an epoch, if it is there.
+/// Whether a node has merged an epoch. True also where there is no such node, or no epoch is left.
 fn has_merged<A: App + Drop>(world: &StoreWorld<A>, id: NodeId, epoch: u64) -> bool {
     match next_to_merge(world, id) {
         Some(next) => epoch < next,
@@ -319,23 +320,23 @@ fn has_merged<A: App + Drop>(world: &StoreWorld<A>, id: NodeId, epoch: u64) -> b
 }
 
 /// The greatest of the epochs that the nodes of a replica merge next.
-fn front_of<A: App + Drop>(world: &StoreWorld<A>, replica: u8, partitions: u8) -> u64 {
-    let mut front = 0;
+fn greatest_to_merge<A: App + Drop>(world: &StoreWorld<A>, replica: u8, partitions: u8) -> u64 {
+    let mut greatest = 0;
     for partition in 0..partitions {
         let id = NodeId { replica, partition };
         if let Some(epoch) = next_to_merge(world, id) {
-            front = front.max(epoch);
+            greatest = greatest.max(epoch);
         }
     }
-    front
+    greatest
 }
 
-/// A node merges the epochs up to `front`, as far as they are decided. Says whether it merged one.
+/// A node merges the epochs up to `last`, as far as they are decided. Says whether it merged one.
 #[tactic(auto, using(crate::proofs::Leading::quiet_here, crate::proofs::Leading::quiet_then, crate::proofs::Leading::want_then))]
 fn merge_up_to<A: App + Drop>(
     world: &mut StoreWorld<A>,
     id: NodeId,
-    front: u64,
+    last: u64,
 ) -> Result<bool, Fault>
     ensures quiet { OnOk result (LeadsQuietly A.meaning Never everyone world.old world.new) }
     ensures want { OnErr result (LeadsToWant A.meaning Never everyone world.old world.new) }
@@ -343,7 +344,7 @@ fn merge_up_to<A: App + Drop>(
 {
     let mut merged = false;
     for _ in 0..u64::MAX {
-        if has_merged(world, id, front) {
+        if has_merged(world, id, last) {
             break;
         }
         let Outcome::Done = happen_at(world, id, Act::Merge)? else {
@@ -354,32 +355,32 @@ fn merge_up_to<A: App + Drop>(
     Ok(merged)
 }
 
-/// A node merges the epochs up to `front`, as far as they are decided, and lets all that is merged ask for its locks. Says whether an
+/// A node merges the epochs up to `last`, as far as they are decided, and lets all that is merged ask for its locks. Says whether an
 /// epoch was merged.
 #[tactic(auto, using(crate::proofs::Leading::quiet_here, crate::proofs::Leading::quiet_then, crate::proofs::Leading::want_then))]
-fn admit<A: App + Drop>(world: &mut StoreWorld<A>, id: NodeId, front: u64) -> Result<bool, Fault>
+fn admit<A: App + Drop>(world: &mut StoreWorld<A>, id: NodeId, last: u64) -> Result<bool, Fault>
     ensures quiet { OnOk result (LeadsQuietly A.meaning Never everyone world.old world.new) }
     ensures want { OnErr result (LeadsToWant A.meaning Never everyone world.old world.new) }
     ensures only { IsOkUnless result Fault.OutOfMemory }
 {
-    let merged = merge_up_to(world, id, front)?;
+    let merged = merge_up_to(world, id, last)?;
     lock_all(world, id)?;
     Ok(merged)
 }
 
-/// A node merges and admits what it can of the epochs up to `front`; then what is ready runs. Says whether an epoch was merged: there
+/// A node merges and admits what it can of the epochs up to `last`; then what is ready runs. Says whether an epoch was merged: there
 /// may be another one.
 #[tactic(auto, using(crate::proofs::Leading::quiet_here, crate::proofs::Leading::quiet_then, crate::proofs::Leading::want_then))]
 fn work_at<A: App + Drop>(
     world: &mut StoreWorld<A>,
     seat: &mut Seat,
-    front: u64,
+    last: u64,
 ) -> Result<bool, Fault>
     ensures quiet { OnOk result (LeadsQuietly A.meaning Never everyone world.old world.new) }
     ensures want { OnErr result (LeadsToWant A.meaning Never everyone world.old world.new) }
     ensures only { IsOkUnless result Fault.OutOfMemory }
 {
-    let merged = admit(world, seat.id, front)?;
+    let merged = admit(world, seat.id, last)?;
     run_ready(world, seat)?;
     Ok(merged)
 }
